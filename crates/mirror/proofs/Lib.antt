@@ -1,0 +1,10 @@
+pub mod Datagram
+pub mod Ends
+pub mod Errors
+pub mod Feeds
+pub mod Halts
+pub mod Joined
+pub mod LineLaws
+pub mod OneWord
+pub mod Piece
+pub mod StepLaws

@@ -1,0 +1,10 @@
+pub mod Built
+pub mod Cli
+pub mod Faults
+pub mod Feeding
+pub mod Format
+pub mod Io
+pub mod Memory
+pub mod Outcome
+pub mod Steps
+pub mod Words

@@ -1,0 +1,121 @@
+// The program over any source and sink.
+ghost use Rattle.std.specs.Prelude.{◌≡◌, ◌≤◌, ◌↔◌, ◌++◌, IsTrue, OnOk, OnErr, IfErr, Err, map, string_bytes};
+ghost use Rattle.session_model.specs.Usual.{usual};
+ghost use Rattle.mirror.specs.Cli.{AreRun, HasFailed, Ran, WasTold, fault_status, ok_line};
+ghost use Rattle.mirror.specs.Faults.{IsPlain, IsWriting};
+ghost use Rattle.mirror.specs.Io.{with_back, HasRisen};
+ghost use Rattle.mirror.specs.Outcome.{GainedSome};
+
+use crate::io::{Sink, Source};
+use crate::program::run;
+use crate::progress::write_all;
+use crate::words::{Word, put_line};
+use nl_core::NoMemory;
+use session_model::{Report, RunFault, Settings};
+use std::alloc::Global;
+
+// The status of a run that was told whole.
+const TOLD: u8 = 0;
+
+// The status of words that are not the program's.
+const OTHER_WORDS: u8 = 1;
+
+/// The program. The one word `run` runs the source's transcript under the usual settings, as `run` does, and then writes
+/// the line `ok LINES MESSAGES DROPPED OPEN STEP` of its report, where STEP is `yes` or `no`. The answer is the exit
+/// status: 0 where all of this is written; 1 for other words, and nothing is read or written then; and 2 to 9 for a
+/// fault: BadRecord, Closed, SequenceExhausted, Unfit, Limit, ReadFault, WriteFault and NoMemory. The last two come also
+/// where the last line could not be written.
+pub fn cli<S: Source, K: Sink>(alloc: Global, words: &[String], input: &mut S, out: &mut K) -> u8
+    ensures ran { AreRun (map string_bytes words.now) → Ran usual (S.left input.old) (S.left input.new) (K.written out.old) (K.written out.new) result }
+
+    // Status 1 comes for other words alone, and leaves source and sink as they were.
+    ensures other { ¬ AreRun (map string_bytes words.now) → (result ≡ 1) × (input.new ≡ input.old) × (out.new ≡ out.old) }
+    ensures usage { result ≡ 1 → ¬ AreRun (map string_bytes words.now) }
+
+    // No link closes yet, and every frame that is read fits.
+    ensures open { ¬ (result ≡ 3) }
+    ensures fits { ¬ (result ≡ 5) }
+    ensures read_cause { result ≡ 7 → HasRisen (S.faults input.old) (S.faults input.new) }
+    ensures write_cause { result ≡ 8 → HasRisen (K.faults out.old) (K.faults out.new) }
+{
+    if !are_run(words) {
+        return OTHER_WORDS;
+    }
+    match run_and_tell(alloc, input, out) {
+        Ok(()) => TOLD,
+        Err(fault) => status_of(fault),
+    }
+}
+
+// Whether the words are the one word `run`.
+fn are_run(words: &[String]) -> bool
+    ensures { IsTrue result ↔ AreRun (map string_bytes words.now) }
+{
+    match words {
+        [word] => word.as_str() == "run",
+        _ => false,
+    }
+}
+
+// The exit status of a fault.
+fn status_of(fault: RunFault) -> u8
+    ensures { result ≡ fault_status fault }
+{
+    match fault {
+        RunFault::BadRecord { .. } => 2,
+        RunFault::Closed { .. } => 3,
+        RunFault::SequenceExhausted { .. } => 4,
+        RunFault::Unfit { .. } => 5,
+        RunFault::Limit => 6,
+        RunFault::ReadFault => 7,
+        RunFault::WriteFault => 8,
+        RunFault::NoMemory => 9,
+    }
+}
+
+// Runs the source's transcript under the usual settings, and writes its report.
+fn run_and_tell<S: Source, K: Sink>(
+    alloc: Global,
+    input: &mut S,
+    out: &mut K,
+) -> Result<(), RunFault>
+    ensures ok { OnOk result (WasTold usual (S.left input.old) (S.left input.new) (K.written out.old) (K.written out.new)) }
+    ensures failed { IfErr result (HasFailed usual (S.left input.old) (S.left input.new) (K.written out.old) (K.written out.new)) }
+    ensures only { IfErr result IsPlain }
+    ensures read_cause { result ≡ Err RunFault.ReadFault → HasRisen (S.faults input.old) (S.faults input.new) }
+    ensures write_cause { result ≡ Err RunFault.WriteFault → HasRisen (K.faults out.old) (K.faults out.new) }
+{
+    let report = run(alloc, input, out, &Settings::usual())?;
+    tell(alloc, &report, out)
+}
+
+// Writes the line of a report.
+fn tell<K: Sink>(alloc: Global, report: &Report, out: &mut K) -> Result<(), RunFault>
+    ensures ok { OnOk result (K.written out.new ≡ with_back (K.written out.old) (ok_line report.now)) }
+    ensures part { OnErr result (GainedSome (K.written out.old) (K.written out.new) (ok_line report.now)) }
+    ensures cause { result ≡ Err RunFault.WriteFault → HasRisen (K.faults out.old) (K.faults out.new) }
+    ensures only { IfErr result IsWriting }
+    ensures later { K.faults out.old ≤ K.faults out.new }
+{
+    let mut text = Vec::new(alloc);
+    put_report(&mut text, report)?;
+    write_all(out, text.as_slice())
+}
+
+// Adds the line of a report.
+fn put_report(text: &mut Vec<u8>, report: &Report) -> Result<(), NoMemory>
+    ensures { OnOk result (text.new.items ≡ text.old.items ++ ok_line report.now) }
+{
+    let step: &[u8] = if report.in_step { b"yes" } else { b"no" };
+    put_line(
+        text,
+        b"ok",
+        &[
+            Word::Number(report.lines),
+            Word::Number(report.messages),
+            Word::Number(report.dropped),
+            Word::Number(report.still_open),
+            Word::Plain(step),
+        ],
+    )
+}

@@ -1,0 +1,26 @@
+//! The route mirror: the transcript of a netlink session in, its text out.
+#![tactic(auto)]
+
+mod command;
+mod io;
+mod laws;
+mod memory;
+mod message;
+mod program;
+mod progress;
+mod records;
+mod runner;
+mod standard;
+#[cfg(test)]
+mod tests;
+mod text;
+mod words;
+
+pub use command::cli;
+pub use io::{Read, Sink, Source, Wrote};
+pub use laws::one_outcome;
+pub use memory::{MemorySink, MemorySource};
+pub use message::Message;
+pub use program::run;
+pub use session_model::{Report, RunFault, Settings};
+pub use standard::{StdSink, StdSource};

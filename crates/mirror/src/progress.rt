@@ -1,0 +1,185 @@
+// A run: what was read so far, and the text that isn't written yet.
+ghost use Rattle.std.specs.Prelude.{◌≡◌, ◌+◌, ◌^◌, ◌<◌, ◌≤◌, [], ◌∷◌, ◌++◌, OnOk, OnErr, IfOk, IfErr, IfSome, Err, length, vec_len};
+ghost use Rattle.mirror.specs.Io.{with_back, HasRisen};
+ghost use Rattle.mirror.specs.Faults.{IsTaking, IsWriting, IsPlain};
+ghost use Rattle.mirror.specs.Steps.{Counted};
+ghost use Rattle.mirror.specs.Feeding.{Reached, Steady, Fed, HaltedBy};
+ghost use Rattle.mirror.specs.Outcome.{Gained, GainedSome, Running, Standing, Ended};
+
+use crate::io::{Read, Sink, Source, Wrote};
+use crate::records::read_line;
+use crate::runner::Runner;
+use session_model::{RunFault, Settings};
+use std::alloc::Global;
+
+// How much is read at once, and how much text waits before it is written, in bytes.
+const PIECE: usize = 16_384;
+
+const ENOUGH: usize = 65_536;
+
+/// The records so far, the unfinished line, the count of bytes taken, the text of the record at hand, and the text of
+/// records that isn't written yet.
+#[derive(Drop)]
+pub struct Progress {
+    alloc: Global,
+    pub runner: Runner,
+    pub line: Vec<u8>,
+    pub taken: u64,
+    answer: Vec<u8>,
+    text: Vec<u8>,
+}
+
+// Writes all of it.
+pub fn write_all<K: Sink>(out: &mut K, text: &[u8]) -> Result<(), RunFault>
+    ensures ok { OnOk result (K.written out.new ≡ with_back (K.written out.old) text.now) }
+    ensures part { OnErr result (GainedSome (K.written out.old) (K.written out.new) text.now) }
+    ensures cause { result ≡ Err RunFault.WriteFault → HasRisen (K.faults out.old) (K.faults out.new) }
+    ensures only { IfErr result IsWriting }
+    ensures later { K.faults out.old ≤ K.faults out.new }
+{
+    let mut rest = text;
+    while !rest.is_empty() {
+        match out.write(rest) {
+            Wrote::Took(count) => {
+                let (_, later) = rest.split_at(count);
+                rest = later;
+            }
+            Wrote::Failed => return Err(RunFault::WriteFault),
+            Wrote::NoMemory => return Err(RunFault::NoMemory),
+        }
+    }
+    Ok(())
+}
+
+impl Progress {
+    /// Nothing read so far.
+    pub fn new(alloc: Global, settings: &Settings) -> Self
+        ensures steady { Steady result }
+        ensures settings { result.runner.settings ≡ settings.now }
+        ensures reached { Reached settings.now [] result.runner result.line.items [] }
+        ensures taken { result.taken ≡ 0 }
+        ensures text { result.text.items ≡ [] }
+    {
+        Progress {
+            alloc,
+            runner: Runner::new(alloc, settings),
+            line: Vec::new(alloc),
+            taken: 0,
+            answer: Vec::new(alloc),
+            text: Vec::new(alloc),
+        }
+    }
+
+    // Takes the whole line that stands in `line`, whose newline is the next byte.
+    fn end_line(&mut self) -> Result<(), RunFault>
+        requires steady { Steady self.old }
+        requires within { self.old.taken < self.old.runner.settings.limit }
+        requires room { self.old.runner.lines + 1 < 2 ^ 64 }
+        ensures counted { OnOk result (Counted self.new.runner) }
+        ensures lines { OnOk result (self.new.runner.lines ≡ self.old.runner.lines + 1) }
+        ensures line { OnOk result ((self.new.line.items ≡ []) × (vec_len self.new.line ≡ 0)) }
+        ensures taken { self.new.taken ≡ self.old.taken }
+        ensures settings { self.new.runner.settings ≡ self.old.runner.settings }
+        ensures step { OnOk result (Fed self.old.runner self.old.line.items self.old.text.items (10 ∷ []) self.new.runner [] self.new.text.items) }
+        ensures fault { IfErr result (HaltedBy self.old.runner self.old.line.items self.old.text.items self.old.taken (10 ∷ []) self.new.text.items) }
+        ensures only { IfErr result IsTaking }
+    {
+        let at = self.taken - self.line.len() as u64;
+        let Some(entry) = read_line(self.alloc, self.line.as_slice())? else {
+            return Err(RunFault::BadRecord { at });
+        };
+        self.answer.clear();
+        match self.runner.take(entry, &mut self.answer) {
+            Ok(()) => {}
+            Err(fault) => return Err(fault.at(at)),
+        }
+        self.text.extend_from_slice(self.answer.as_slice())?;
+        self.line.clear();
+        Ok(())
+    }
+
+    // Takes a piece of the input.
+    fn feed(&mut self, piece: &[u8]) -> Result<(), RunFault>
+        requires steady { Steady self.old }
+        requires limit { self.old.taken ≤ self.old.runner.settings.limit }
+        ensures steady { OnOk result (Steady self.new) }
+        ensures taken { OnOk result ((self.new.taken ≡ self.old.taken + length piece.now) × (self.new.taken ≤ self.new.runner.settings.limit)) }
+        ensures settings { self.new.runner.settings ≡ self.old.runner.settings }
+        ensures step { OnOk result (Fed self.old.runner self.old.line.items self.old.text.items piece.now self.new.runner self.new.line.items self.new.text.items) }
+        ensures fault { IfErr result (HaltedBy self.old.runner self.old.line.items self.old.text.items self.old.taken piece.now self.new.text.items) }
+        ensures only { IfErr result IsTaking }
+    {
+        let limit = self.runner.settings.limit;
+        for byte in piece {
+            if self.taken >= limit {
+                return Err(RunFault::Limit);
+            }
+            if *byte == b'\n' {
+                self.end_line()?;
+            } else {
+                self.line.push(*byte)?;
+            }
+            self.taken += 1;
+        }
+        Ok(())
+    }
+
+    /// Writes the text that waits.
+    pub fn flush<K: Sink>(&mut self, out: &mut K) -> Result<(), RunFault>
+        ensures ok { OnOk result (K.written out.new ≡ with_back (K.written out.old) self.old.text.items) }
+        ensures part { OnErr result (GainedSome (K.written out.old) (K.written out.new) self.old.text.items) }
+        ensures emptied { self.new.text.items ≡ [] }
+        ensures same { (self.new.runner ≡ self.old.runner) × (self.new.line ≡ self.old.line) × (self.new.taken ≡ self.old.taken) }
+        ensures cause { result ≡ Err RunFault.WriteFault → HasRisen (K.faults out.old) (K.faults out.new) }
+        ensures only { IfErr result IsWriting }
+        ensures later { K.faults out.old ≤ K.faults out.new }
+    {
+        let written = write_all(out, self.text.as_slice());
+        self.text.clear();
+        written
+    }
+
+    // Writes the text that waits, where there is much of it.
+    fn flush_much<K: Sink>(&mut self, out: &mut K) -> Result<(), RunFault>
+        ensures ok { OnOk result (Gained (K.written out.old) (K.written out.new) self.old.text.items self.new.text.items) }
+        ensures part { OnErr result (GainedSome (K.written out.old) (K.written out.new) self.old.text.items × (self.new.text.items ≡ [])) }
+        ensures same { (self.new.runner ≡ self.old.runner) × (self.new.line ≡ self.old.line) × (self.new.taken ≡ self.old.taken) }
+        ensures cause { result ≡ Err RunFault.WriteFault → HasRisen (K.faults out.old) (K.faults out.new) }
+        ensures only { IfErr result IsWriting }
+        ensures later { K.faults out.old ≤ K.faults out.new }
+    {
+        if self.text.len() < ENOUGH {
+            return Ok(());
+        }
+        self.flush(out)
+    }
+
+    /// Reads the source to its end, and writes most of the text.
+    pub fn read_all<S: Source, K: Sink>(
+        &mut self,
+        input: &mut S,
+        out: &mut K,
+    ) -> Result<(), RunFault>
+        requires steady { Steady self.old }
+        requires begun { Running self.old.runner.settings (S.left input.old) (S.left input.old) (K.written out.old) (K.written out.old) self.old }
+        ensures stands { Standing self.old.runner.settings (S.left input.old) (S.left input.new) (K.written out.old) (K.written out.new) self.new.text.items }
+        ensures steady { OnOk result (Steady self.new) }
+        ensures ok { OnOk result (Running self.old.runner.settings (S.left input.old) (S.left input.new) (K.written out.old) (K.written out.new) self.new) }
+        ensures end { OnOk result (IfSome (S.left input.new) (λ rest. rest ≡ [])) }
+        ensures ended { IfErr result (Ended self.old.runner.settings (S.left input.old) (S.left input.new) (K.written out.old) (K.written out.new) self.new.text.items) }
+        ensures only { IfErr result IsPlain }
+        ensures read_cause { result ≡ Err RunFault.ReadFault → HasRisen (S.faults input.old) (S.faults input.new) }
+        ensures write_cause { result ≡ Err RunFault.WriteFault → HasRisen (K.faults out.old) (K.faults out.new) }
+        ensures later { K.faults out.old ≤ K.faults out.new }
+    {
+        let mut piece = [0u8; PIECE];
+        loop {
+            match input.read(&mut piece) {
+                Read::Failed => return Err(RunFault::ReadFault),
+                Read::End => return Ok(()),
+                Read::Got(count) => self.feed(&piece[..count])?,
+            }
+            self.flush_much(out)?;
+        }
+    }
+}

@@ -1,0 +1,49 @@
+//! The program: standard input to standard output.
+#![tactic(auto)]
+
+use mirror::{StdSink, StdSource, cli};
+use std::process::ExitCode;
+use std::{env, io};
+
+// The status of want of memory, here for the words themselves.
+const NO_MEMORY: u8 = 9;
+
+// The words behind the program's own name.
+fn words(rt: &HostRuntime) -> io::Result<Vec<String>> {
+    let mut words = Vec::new(rt.alloc());
+    for word in env::args(rt)?.skip(1) {
+        words.push(word)?;
+    }
+    Ok(words)
+}
+
+// What a status means, where it is no success.
+fn meaning(status: u8) -> Option<&'static str> {
+    match status {
+        1 => Some("usage: mirror_cli run"),
+        2 => Some("mirror_cli: a line of the input is no record"),
+        3 => Some("mirror_cli: a record comes after a close"),
+        4 => Some("mirror_cli: the sequence numbers are used up"),
+        5 => Some("mirror_cli: a frame does not fit"),
+        6 => Some("mirror_cli: the input is longer than its limit"),
+        7 => Some("mirror_cli: the input could not be read"),
+        8 => Some("mirror_cli: the output could not be written"),
+        9 => Some("mirror_cli: out of memory"),
+        _ => None,
+    }
+}
+
+// Standard output keeps no bytes back: each write goes to the system at once, so nothing is left to flush.
+fn main(rt: HostRuntime) -> ExitCode {
+    let mut input = StdSource::new(rt.stdin());
+    let mut out = StdSink::new(rt.stdout());
+    let status = match words(&rt) {
+        Ok(words) => cli(rt.alloc(), words.as_slice(), &mut input, &mut out),
+        Err(_) => NO_MEMORY,
+    };
+    if let Some(text) = meaning(status) {
+        // A message that can't be written changes no status.
+        let _ = eprintln!(rt; "{text}");
+    }
+    ExitCode::from(status)
+}

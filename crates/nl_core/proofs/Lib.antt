@@ -1,0 +1,4 @@
+pub mod Wire
+pub mod Codes
+pub mod Fits
+pub mod Again

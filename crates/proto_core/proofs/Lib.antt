@@ -1,0 +1,4 @@
+pub mod Arrived
+pub mod Entries
+pub mod Numbered
+pub mod Queues

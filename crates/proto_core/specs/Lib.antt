@@ -1,0 +1,5 @@
+pub mod Noted
+pub mod Numbers
+pub mod Pending
+pub mod Refused
+pub mod Session

@@ -1,0 +1,27 @@
+-- The numbers of messages, and of what is awaited.
+use Rattle.std.specs.Prelude.{◌+◌, ◌<◌, ◌==◌, ℕ, zero, suc, Bool, not, List, [], ◌∷◌}
+use Rattle.std.specs.List.{filter, list_any, AllByRecursion}
+use Rattle.session_model.specs.declared.awaited.Awaited.{Awaited}
+
+-- So many numbers, each one more than the one before it, from the one that follows `last`.
+abbrev pub numbers_after : ℕ → ℕ → List ℕ
+numbers_after last zero = []
+numbers_after last (suc n) = (last + 1) ∷ numbers_after (last + 1) n
+
+module _ {M : Type 0} where
+  -- Each number is below all that stand behind it, so no number stands twice.
+  abbrev pub IsAscending : List (Awaited M) → Type 0
+  IsAscending [] = Unit {0}
+  IsAscending (w ∷ ws) = AllByRecursion (λ (v : Awaited M). w.number < v.number) ws × IsAscending ws
+
+  -- Each number is below a bound.
+  abbrev pub AreBelow : ℕ → List (Awaited M) → Type 0
+  AreBelow bound ws = AllByRecursion (λ (w : Awaited M). w.number < bound) ws
+
+  -- Whether a number is awaited from some port.
+  abbrev pub is_awaited : ℕ → List (Awaited M) → Bool
+  is_awaited number ws = list_any (λ (w : Awaited M). w.number == number) ws
+
+  -- What is awaited under other numbers.
+  abbrev pub without : ℕ → List (Awaited M) → List (Awaited M)
+  without number ws = filter (λ (w : Awaited M). not (w.number == number)) ws

@@ -1,0 +1,12 @@
+pub mod Usual
+pub mod Cut
+pub mod Flags
+pub mod Events
+pub mod Awaited
+pub mod Streams
+pub mod Lines
+pub mod SessionText
+pub mod Transcript
+pub mod Reported
+pub mod Causes
+pub mod Example

@@ -1,0 +1,5 @@
+pub mod Number
+pub mod Bytes
+pub mod BytesReader
+pub mod Words
+pub mod Line

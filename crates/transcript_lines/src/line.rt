@@ -1,0 +1,139 @@
+// The record of a line.
+ghost use Rattle.std.specs.Prelude.{◌≡◌, List, ℕ, [], ◌∷◌, ◌++◌, codes, IfOk, IfSome, IfNone};
+ghost use Rattle.transcript_lines.specs.Line.{IsSpelled, IsNoLine, IsRecordOf, IsAddressOf, IsFrameOf, IsMarkOf, IsKindOf};
+ghost use Rattle.transcript_lines.specs.Words.{words_left};
+ghost use Rattle.session_model.specs.Transcript.{record_line};
+
+use crate::bytes::read_bytes;
+use crate::number::read_number;
+use crate::words::Words;
+use nl_core::{Items, NoMemory};
+use session_model::{BatchFrame, Mark, Record, SocketAddr};
+use std::alloc::Global;
+
+// The most bytes of a datagram that a line spells.
+const LONGEST_DATAGRAM: usize = 65_536;
+
+// Which form a record has, by its first word.
+#[derive(Clone, Copy, PartialEq, Eq)]
+pub(crate) enum Kind {
+    Recv,
+    Overrun,
+    Close,
+    Batch,
+}
+
+fn kind_of(word: &[u8]) -> Option<Kind>
+    ensures { IsKindOf word.now result }
+{
+    match word {
+        b"recv" => Some(Kind::Recv),
+        b"overrun" => Some(Kind::Overrun),
+        b"close" => Some(Kind::Close),
+        b"batch" => Some(Kind::Batch),
+        _ => None,
+    }
+}
+
+fn mark_of(letter: u8) -> Option<Mark>
+    ensures { IsMarkOf letter result }
+{
+    match letter {
+        b'f' => Some(Mark::ByFlags),
+        b'e' => Some(Mark::Expected),
+        b'n' => Some(Mark::NotExpected),
+        _ => None,
+    }
+}
+
+// The address that the next two words spell.
+fn read_address(words: &mut Words) -> Option<SocketAddr>
+    ensures { IsAddressOf (words_left words.old) result (words_left words.new) }
+{
+    let port = read_number(words.next()?)?;
+    let groups = read_number(words.next()?)?;
+    Some(SocketAddr { port, groups })
+}
+
+// The frame that a word of a batch spells.
+fn read_frame(alloc: Global, word: &[u8]) -> Result<Option<BatchFrame>, NoMemory>
+    ensures { IfOk result (IsFrameOf word.now) }
+{
+    let [letter, b':', digits @ ..] = word else {
+        return Ok(None);
+    };
+    let Some(mark) = mark_of(*letter) else {
+        return Ok(None);
+    };
+    match read_bytes(alloc, digits)? {
+        Some(bytes) => Ok(Some(BatchFrame { mark, bytes })),
+        None => Ok(None),
+    }
+}
+
+// The datagram that the words behind `recv` spell.
+fn read_datagram(alloc: Global, words: Words) -> Result<Option<Record>, NoMemory>
+    ensures { IfOk result (IsRecordOf (codes "recv" ∷ words_left words.entry)) }
+{
+    let mut words = words;
+    let Some(source) = read_address(&mut words) else {
+        return Ok(None);
+    };
+    let Some(word) = words.next() else {
+        return Ok(None);
+    };
+    if words.next().is_some() {
+        return Ok(None);
+    }
+    if word.len() > 2 * LONGEST_DATAGRAM {
+        return Ok(None);
+    }
+    match read_bytes(alloc, word)? {
+        Some(bytes) => Ok(Some(Record::Recv { source, bytes })),
+        None => Ok(None),
+    }
+}
+
+// The batch that the words behind `batch` spell.
+fn read_batch(alloc: Global, words: Words) -> Result<Option<Record>, NoMemory>
+    ensures { IfOk result (IsRecordOf (codes "batch" ∷ words_left words.entry)) }
+{
+    let mut words = words;
+    let Some(to) = read_address(&mut words) else {
+        return Ok(None);
+    };
+    let mut frames = Items::new(alloc);
+    for word in words {
+        match read_frame(alloc, word)? {
+            Some(frame) => frames.push(frame)?,
+            None => return Ok(None),
+        }
+    }
+    Ok(Some(Record::Batch { to, frames }))
+}
+
+// The record that the words of a line spell.
+fn read_record(alloc: Global, words: Words) -> Result<Option<Record>, NoMemory>
+    ensures { IfOk result (IsRecordOf (words_left words.entry)) }
+{
+    let mut words = words;
+    let Some(first) = words.next() else {
+        return Ok(None);
+    };
+    match kind_of(first) {
+        Some(Kind::Recv) => read_datagram(alloc, words),
+        Some(Kind::Overrun) => Ok(words.next().is_none().then_some(Record::Overrun)),
+        Some(Kind::Close) => Ok(words.next().is_none().then_some(Record::Close)),
+        Some(Kind::Batch) => read_batch(alloc, words),
+        None => Ok(None),
+    }
+}
+
+/// The record that a line, without its newline, spells, and `None` where it spells none. A record has one line, and no
+/// two records have the same; a line with a newline inside is none. Want of memory is the only error.
+pub fn read_line(alloc: Global, line: &[u8]) -> Result<Option<Record>, NoMemory>
+    ensures some { IfOk result (λ o. IfSome o (λ r. IsSpelled r × (line.now ++ 10 ∷ [] ≡ record_line r))) }
+    ensures none { IfOk result (λ o. IfNone o (IsNoLine line.now)) }
+{
+    read_record(alloc, Words::new(line))
+}

@@ -1,0 +1,46 @@
+// The words of a line: what stands between its blanks.
+ghost use Rattle.std.specs.Prelude.{◌≡◌, [], ◌∷◌};
+ghost use Rattle.std.specs.Option.{option_map_or};
+ghost use Rattle.std.specs.Iterator.{item_count, YieldsFirstRef};
+ghost use Rattle.transcript_lines.specs.Words.{words_of, words_left};
+
+/// The words of a line, in order. A line of no bytes is one word of none.
+#[derive(Drop)]
+pub(crate) struct Words<'a> {
+    rest: Option<&'a [u8]>,
+}
+
+impl<'a> Words<'a> {
+    pub(crate) fn new(line: &'a [u8]) -> Self
+        ensures { words_left result ≡ words_of line.now }
+    {
+        Words { rest: Some(line) }
+    }
+}
+
+impl<'a> Iterator for Words<'a> {
+    type Item = &'a [u8];
+
+    ghost next_gives = { YieldsFirstRef words_left };
+
+    ghost remaining = { item_count words_left };
+
+    fn next(&mut self) -> Option<&'a [u8]> {
+        let rest = self.rest?;
+        let (word, after) = split_first_word(rest);
+        self.rest = after;
+        Some(word)
+    }
+}
+
+// The word before the first blank, and what follows that blank.
+fn split_first_word(line: &[u8]) -> (&[u8], Option<&[u8]>)
+    ensures { words_of line.now ≡ result.0.now ∷ option_map_or (λ rest. words_of rest.now) result.1 [] }
+{
+    for (at, byte) in line.iter().enumerate() {
+        if *byte == b' ' {
+            return (&line[..at], Some(&line[at + 1..]));
+        }
+    }
+    (line, None)
+}
