@@ -1,11 +1,11 @@
 -- What one more record does to a runner's session, and why it isn't taken.
-use Rattle.std.proofs.Common.{◌≡◌, ◌≢◌, ◌+◌, ◌<◌, ◌≤◌, ◌&&◌, ◌==◌, ◌^◌, ℕ, Bool, true, false, not, cond, nat_lt, List, [], ◌∷◌, ◌++◌, length, get_or, Option, Some, None, Result, Ok, Err, flat_map, refl, sym, ◌∙◌, ap, subst, append_assoc, arith}
+use Rattle.std.proofs.Common.{◌≡◌, ◌≢◌, ◌+◌, ◌<◌, ◌≤◌, ◌&&◌, ◌^◌, ℕ, Bool, true, false, not, cond, nat_lt, List, [], ◌∷◌, ◌++◌, length, get_or, Option, Some, None, Result, Ok, Err, refl, sym, ◌∙◌, ap, subst, arith}
 use Rattle.std.specs.Prelude.{IsOk}
 use Rattle.std.specs.List.{AllByRecursion, list_all}
 use Rattle.std.proofs.lemmas.List.{length-append}
 use Rattle.std.proofs.lemmas.Grind.{flat_map-append}
 use Rattle.std.proofs.lemmas.Bool.Decides.{nat_tests}
-use Rattle.nl_core.specs.Frames.{IsFrame, frame_at, message_fits}
+use Rattle.nl_core.specs.Frames.{frame_at, message_fits}
 use Rattle.nl_core.proofs.Fits.{whole_fits}
 use Rattle.nl_core.specs.Reading.{Fails}
 use Rattle.nl_core.specs.declared.error.DecodeError.{DecodeError}
@@ -13,25 +13,23 @@ use Rattle.nl_core.specs.declared.error.DecodeError.TheVariants as decode
 use Rattle.nl_core.specs.declared.message.NetlinkMessage.{NetlinkMessage}
 use Rattle.session_model.specs.declared.awaited.Awaited.{Awaited}
 use Rattle.session_model.specs.declared.address.SocketAddr.{SocketAddr}
-use Rattle.session_model.specs.declared.outcome.Report.{Report}
 use Rattle.session_model.specs.declared.settings.Settings.{Settings}
 use Rattle.session_model.specs.declared.transcript.BatchFrame.{BatchFrame}
 use Rattle.session_model.specs.declared.transcript.Mark.TheVariants.{Expected}
 use Rattle.session_model.specs.declared.transcript.Record.{Record}
 use Rattle.session_model.specs.declared.transcript.Record.TheVariants.{Recv, Overrun, Close, Batch}
 use Rattle.session_model.specs.Events.{Event, Sent, Came, Arrival, arrivals, record_events, asked_message}
-use Rattle.session_model.specs.Awaited.{awaited, batch_count, last_number}
-use Rattle.session_model.specs.Streams.{is_shut, open_streams}
+use Rattle.session_model.specs.Awaited.{batch_count, last_number}
 use Rattle.session_model.specs.SessionText.{text_of_events}
-use Rattle.session_model.specs.Causes.{refusal, numbers_of, all_fit, read_fits, AfterClose, OutOfNumbers, TooLong}
+use Rattle.session_model.specs.Causes.{refusal, read_fits, AfterClose, OutOfNumbers, TooLong}
 use Rattle.session_model.specs.Reported.{drops, dropped_count, report_of}
 use Rattle.session_model.specs.Transcript.{IsWholeFrame}
-use Rattle.session_model.proofs.Places.{append-nil, batch_count-append, arrivals-append}
+use Rattle.session_model.proofs.Places.{append-nil, batch_count-append}
 use Rattle.session_model.proofs.Arrived.{one_datagram}
 use Rattle.session_model.proofs.Distinct.{OneEach}
 use Rattle.session_model.proofs.Sent.{all_append, unshut}
 use Rattle.session_model.proofs.Open.{open_as_awaited}
-use Rattle.session_model.proofs.Taking.{taken_more, all_allowed}
+use Rattle.session_model.proofs.Taking.{taken_more}
 use Rattle.proto_core.specs.Session.{Session, arrived_at, replied, awaiting, requested}
 use Rattle.proto_core.specs.declared.request.Request.{Request}
 use Rattle.proto_core.specs.declared.request.ExpectResponse.TheVariants.{Explicit}
@@ -40,7 +38,7 @@ use Rattle.session_steps.proofs.Steps.{received, sent, asked_of, request_one}
 use Rattle.mirror.specs.declared.runner.Runner.{Runner}
 use Rattle.mirror.specs.Built.{IsBuilt}
 use Rattle.mirror.specs.Format.{Message, format}
-use Rattle.mirror.specs.Steps.{events, text_of, text_behind, batch_of, AreAllTaken, Stepping, Tracks}
+use Rattle.mirror.specs.Steps.{events, text_behind, batch_of, Stepping, Tracks}
 
 pub readable : (r : Result (NetlinkMessage Message) DecodeError) → IsOk r → (m : NetlinkMessage Message) × (r ≡ Ok m)
 readable (Ok m) h = (m, refl)

@@ -3,7 +3,7 @@ use Rattle.std.specs.Prelude.{◌≡◌, ◌≤◌, ℕ, List, [], ◌∷◌, le
 use Rattle.nl_core.specs.Frames.{IsFrame, frame_at}
 use Rattle.session_model.specs.declared.transcript.Mark.TheVariants.{Expected}
 use Rattle.session_model.specs.declared.transcript.Record.{Record}
-use Rattle.session_model.specs.declared.transcript.Record.TheVariants.{Recv, Overrun, Close, Batch}
+use Rattle.session_model.specs.declared.transcript.Record.TheVariants.{Recv, Batch}
 use Rattle.session_model.specs.Transcript.{IsAddress, IsWholeFrame}
 use Rattle.mirror.specs.Format.{format}
 

@@ -1,5 +1,5 @@
 // Lines with the records that they spell, and lines that spell none.
-use super::{BytesReader, NumberReader, one_record, read_line};
+use super::{BytesReader, NumberReader, one_outcome, one_record, read_line};
 use nl_core::{Items, NoMemory, Octets};
 use session_model::{BatchFrame, Mark, Record, SocketAddr};
 use std::alloc::Global;
@@ -146,6 +146,7 @@ fn bounds_datagrams(rt: HostRuntime) -> Result<(), Fail> {
 #[test]
 fn reads_pieces(rt: HostRuntime) -> Result<(), Fail> {
     one_record();
+    one_outcome();
     assert_eq!(rt;
         NumberReader::new().feed(b"12").feed(b"").feed(b"30").end(),
         Some(1230)

@@ -1,4 +1,4 @@
-use Rattle.std.proofs.Common.{◌≡◌, ◌<◌, ◌≤◌, ◌-◌, ◌+◌, length, refl, ap, sym, subst, ◌∙◌, arith}
+use Rattle.std.proofs.Common.{◌≡◌, ◌-◌, length, refl, ap, ◌∙◌, arith}
 use Rattle.mirror.proofs.Errors.{err_from}
 use Rattle.mirror.proofs.Ends.{ended_writing, ended_flushed, ended_unfinished, was_run, was_ended, was_run_for, told_for}
 use Rattle.mirror.proofs.program.run.Goals as goal

@@ -1,4 +1,4 @@
-use Rattle.std.proofs.Common.{◌≡◌, ◌+◌, ◌-◌, ◌∷◌, [], ◌++◌, length, sym, ◌∙◌, ap, subst, arith}
+use Rattle.std.proofs.Common.{◌-◌, ◌∷◌, [], ◌++◌, length, sym, ◌∙◌, ap, subst}
 use Rattle.session_model.specs.Causes.{IsNoRecord}
 use Rattle.session_model.specs.declared.outcome.RunFault.TheVariants as run
 use Rattle.mirror.specs.Built.{IsBuilt}

@@ -1,4 +1,4 @@
-use Rattle.std.proofs.Common.{◌≡◌, ◌+◌, take, refl, ◌∙◌, arith}
+use Rattle.std.proofs.Common.{◌≡◌, take, refl, ◌∙◌, arith}
 use Rattle.std.proofs.lemmas.List.{take_all}
 use Rattle.session_model.specs.declared.outcome.RunFault.TheVariants as run
 use Rattle.mirror.proofs.Errors.{err_from}

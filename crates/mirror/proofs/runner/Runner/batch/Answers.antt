@@ -1,4 +1,4 @@
-use Rattle.std.proofs.Common.{◌≡◌, ◌+◌, sym, ◌∙◌, ap}
+use Rattle.std.proofs.Common.{◌∙◌, ap}
 use Rattle.mirror.proofs.StepLaws.{batch_step, batch_free, batch_exhausted, never_unfit}
 use Rattle.mirror.proofs.runner.Runner.batch.Goals as goal
 

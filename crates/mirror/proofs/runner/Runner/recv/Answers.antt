@@ -1,4 +1,4 @@
-use Rattle.std.proofs.Common.{◌≡◌, ◌+◌, sym, ◌∙◌, ap}
+use Rattle.std.proofs.Common.{◌+◌, ◌∙◌, ap}
 use Rattle.mirror.proofs.StepLaws.{recv_step, arrived_counts, arrived_last}
 use Rattle.mirror.proofs.runner.Runner.recv.Goals as goal
 

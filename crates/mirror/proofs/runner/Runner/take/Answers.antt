@@ -1,4 +1,4 @@
-use Rattle.std.proofs.Common.{◌≡◌, ◌+◌, sym, ◌∙◌, ap, subst}
+use Rattle.std.proofs.Common.{◌+◌, sym, ◌∙◌, ap, subst}
 use Rattle.session_model.specs.declared.transcript.Record.TheVariants.{Recv}
 use Rattle.mirror.specs.Steps.{batch_of, WhyNot}
 use Rattle.mirror.proofs.Errors.{err_from}

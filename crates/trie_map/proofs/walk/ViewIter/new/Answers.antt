@@ -1,0 +1,17 @@
+use Rattle.std.proofs.Common.{rules, arith, ap, ◌/◌, length}
+use Rattle.trie_model.proofs.WalkLaws.{ahead_start}
+use Rattle.trie_model.proofs.RoomLaws.{room_one, frugal_one}
+use Rattle.trie_model.proofs.WalkSteps.{one_pushed, walk_one}
+use Rattle.trie_map.proofs.walk.ViewIter.new.Goals as goal
+
+pub returns-clause-usable : goal.returns-clause-usable
+returns-clause-usable g c = record { levels = (walk_one (λ l. g.V.TrieView.valid l.view) (λ l. g.V.TrieView.told l.view) (λ l. l.spot) g.V.P.Number.Word.width _ _ (one_pushed _ _ _ c.put.ensures.items c.in_ok-levels.ensures.items) (record { usable = c.requires; view = (g.met.V.TrieView c.lifetimes (search rules)).laws _ c.requires; first = omega arith; last = omega arith; ahead = ahead_start g.V.P.Number.Word.width (g.V.TrieView.told c.args.view) })).0; room = room_one g.V.P.Number.Word.width (λ l. g.V.TrieView.told l.view) _ _ _ (let a = c.put.ensures.capacity in let k = c.in_ok-levels.ensures.capacity in let b = ap (λ x. x / 5) c.bits.ensures in omega (arith, a, k, b)) (one_pushed _ _ _ c.put.ensures.items c.in_ok-levels.ensures.items) }
+
+pub returns-clause-whole : goal.returns-clause-whole
+returns-clause-whole g c = (walk_one (λ l. g.V.TrieView.valid l.view) (λ l. g.V.TrieView.told l.view) (λ l. l.spot) g.V.P.Number.Word.width _ _ (one_pushed _ _ _ c.put.ensures.items c.in_ok-levels.ensures.items) (record { usable = c.requires; view = (g.met.V.TrieView c.lifetimes (search rules)).laws _ c.requires; first = omega arith; last = omega arith; ahead = ahead_start g.V.P.Number.Word.width (g.V.TrieView.told c.args.view) })).1
+
+pub returns-clause-frugal : goal.returns-clause-frugal
+returns-clause-frugal g c = λ f. frugal_one (λ l. g.V.TrieView.told l.view) _ _ (one_pushed _ _ _ c.put.ensures.items c.in_ok-levels.ensures.items) f
+
+pub put-requires : goal.put-requires
+put-requires g c = let k = c.in_ok-levels.ensures.capacity in let z = ap length c.in_ok-levels.ensures.items in omega (arith, k, z)

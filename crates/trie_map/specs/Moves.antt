@@ -1,0 +1,28 @@
+-- What one step of a walk does to the view that it stands in, and to the stack.
+use Rattle.std.specs.Prelude.{◌≡◌, ℕ, ◌+◌, ◌<◌, ◌↔◌, ⊤, List}
+use Rattle.std.specs.Int.{bit_at}
+use Rattle.trie_model.specs.Nets.{Net}
+use Rattle.trie_model.specs.Views.{Told, data_net, TookData, TookChild, IsChild}
+use Rattle.trie_model.specs.Walks.{Left, Gives, work}
+use Rattle.trie_map.specs.declared.walk.Step.{Step}
+use Rattle.trie_map.specs.declared.walk.Step.TheVariants.{Nothing, Item, Child}
+use Rattle.trie_map.specs.declared.walk.Move.{Move}
+use Rattle.trie_map.specs.declared.walk.Move.TheVariants.{End, On, Found}
+
+-- nothing at the spot, or the pair of its data bit, or its child
+abbrev pub StepOf : {V T X : Type 0} → (V → Type 0) → (V → Told X) → (T → X) → ℕ → ℕ → V → V → Step V T → Type 0
+StepOf valid tell item w spot old new Nothing = new ≡ old
+StepOf valid tell item w spot old new (Item bit x) = (bit < 31) × (spot ≡ bit + 1) × (tell old).at (data_net w (tell old).place bit) (item x) × TookData w bit (tell old) (tell new)
+StepOf valid tell item w spot old new (Child bit c) = (bit < 32) × (spot ≡ 32 + bit) × (bit_at (tell old).child_bits bit ≡ 1) × valid c × IsChild w bit (tell old) (tell c) × TookChild w bit (tell old) (tell new)
+
+-- the end, or a step that leaves what is left, or the first pair of what is left
+abbrev pub MoveOf : {L P T X : Type 0} → (L → Told X) → (T → X) → (P → Net) → (P → ℕ) → ℕ → List L → List L → Move P T → Type 0
+MoveOf {L} {P} {T} {X} tell item net raw w old new End = (n : Net) (x : X) → Left tell old n x → ⊥
+MoveOf {L} {P} {T} {X} tell item net raw w old new On = (n : Net) (x : X) → Left tell new n x ↔ Left tell old n x
+MoveOf tell item net raw w old new (Found p x) = Gives w tell old new (net p) (item x) × (raw p ≡ (net p).bits)
+
+-- a move that gives nothing leaves less to do
+abbrev pub Lessens : {L P T X : Type 0} → (L → Told X) → (L → ℕ) → ℕ → List L → List L → Move P T → Type 0
+Lessens tell spot w old new End = ⊤
+Lessens tell spot w old new On = work w tell spot new < work w tell spot old
+Lessens tell spot w old new (Found p x) = ⊤

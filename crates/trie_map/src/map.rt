@@ -1,0 +1,218 @@
+//! A finite map of prefixes.
+
+ghost use Rattle.std.specs.Prelude.{◌≡◌, ◌↔◌, ◌+◌, ◌-◌, ◌^◌, ◌<◌, ◌≤◌, [], ⊤, length, min, IsTrue, IsSome, IfOk, IfErr, IfSome, OnOk, OnErr};
+ghost use Rattle.std.specs.Option.{option_copied};
+ghost use Rattle.trie_map.specs.Walking.{CanWalk, IsFrugalWalk, ToCome};
+ghost use Rattle.trie_model.specs.Maps.{LongestMatch, inserted, missing, present, removed, value_at};
+ghost use Rattle.trie_model.specs.Nets.{Net};
+ghost use Rattle.trie_model.specs.Walks.{Within};
+
+use crate::node::{Node, Steps, empty, find, longest, put, take};
+use crate::prefix::Place;
+use crate::refs::{TrieRef, root_view};
+use crate::view::{AsView, TrieView};
+use crate::walk::ViewIter;
+use nl_core::NoMemory;
+use std::alloc::Global;
+use std::marker::{Model, PhantomData};
+
+/// A finite map from prefixes to values. Contracts see the list of its pairs, in the order of the
+/// prefixes: by bits, then by length. A call's cost grows with the prefix's length, and not with the
+/// number of entries.
+#[derive(Drop)]
+pub struct PrefixMap<P: Place, T> {
+    root: Node<T>,
+    count: usize,
+    alloc: Global,
+    of: PhantomData<P>,
+}
+
+impl<P: Place, T> Model for PrefixMap<P, T> {
+    ghost use Rattle.std.specs.Prelude.{List};
+    ghost use Rattle.trie_model.specs.Nets.{Net};
+
+    ghost Value = { List (Net × T) };
+
+    ghost use Rattle.trie_map.specs.Forms.{node_form};
+    ghost use Rattle.trie_model.specs.Maps.{MapOk, map_of, pairs};
+
+    ghost view = { λ m. pairs P.Number.width (map_of node_form P.Number.width m.root) };
+
+    ghost invariant = { λ m. MapOk node_form P.Number.width m.root m.count };
+}
+
+impl<P: Place, T> PrefixMap<P, T> {
+    /// The map with no entry.
+    pub fn new(alloc: Global) -> Self
+        ensures { result ≡ [] }
+    {
+        PrefixMap {
+            root: empty(alloc),
+            count: 0,
+            alloc,
+            of: PhantomData,
+        }
+    }
+
+    /// How many entries there are.
+    pub fn len(&self) -> usize
+        ensures { result ≡ length self.now }
+    {
+        self.count
+    }
+
+    /// Whether there is no entry.
+    pub fn is_empty(&self) -> bool
+        ensures { IsTrue result ↔ (self.now ≡ []) }
+    {
+        self.count == 0
+    }
+
+    /// The value of a prefix.
+    pub fn get(&self, prefix: &P) -> Option<&T>
+        requires { (P.net prefix.now).len ≤ P.Number.width }
+        ensures { option_copied result ≡ value_at self.now (P.net prefix.now) }
+    {
+        let key = prefix.number();
+        find(
+            &self.root,
+            0,
+            key,
+            prefix.length() as u32,
+            &mut Steps::start(),
+        )
+    }
+
+    /// Whether a prefix has a value.
+    pub fn contains_key(&self, prefix: &P) -> bool
+        requires { (P.net prefix.now).len ≤ P.Number.width }
+        ensures { IsTrue result ↔ IsSome (value_at self.now (P.net prefix.now)) }
+    {
+        self.get(prefix).is_some()
+    }
+
+    /// The longest entry whose prefix contains this one, without host bits.
+    pub fn get_lpm(&self, prefix: &P) -> Option<(P, &T)>
+        requires { (P.net prefix.now).len ≤ P.Number.width }
+        ensures longest { LongestMatch P.Number.width (λ r. P.net r.0) (λ r. r.1.now) self.now (P.net prefix.now) result }
+        ensures masked { IfSome result (λ r. P.raw r.0 ≡ (P.net r.0).bits) }
+    {
+        let key = prefix.number();
+        match longest(
+            &self.root,
+            0,
+            key,
+            prefix.length() as u32,
+            &mut Steps::start(),
+        ) {
+            Some((len, value)) => Some((P::from_number(key, len as u8), value)),
+            None => None,
+        }
+    }
+
+    /// The view of the whole map. It visits the root, and takes no memory.
+    pub fn view_counted<'a, L>(&'a self, steps: &mut Steps<L>) -> TrieRef<'a, P, T>
+        ensures usable { ⟦<TrieRef<'a, P, T> as TrieView<'a>>⟧.valid result }
+        ensures place { (⟦<TrieRef<'a, P, T> as TrieView<'a>>⟧.told result).place ≡ record { bits = 0; len = 0 } }
+        ensures pairs { (n : Net) (x : T) → (⟦<TrieRef<'a, P, T> as TrieView<'a>>⟧.told result).at n x ↔ Within self.now n x }
+        ensures counted { steps.new ≡ min (steps.old + 1) (2 ^ 64 - 1) }
+    {
+        root_view(&self.root, steps)
+    }
+
+    /// The view of the whole map.
+    pub fn view<'a>(&'a self) -> TrieRef<'a, P, T>
+        ensures usable { ⟦<TrieRef<'a, P, T> as TrieView<'a>>⟧.valid result }
+        ensures place { (⟦<TrieRef<'a, P, T> as TrieView<'a>>⟧.told result).place ≡ record { bits = 0; len = 0 } }
+        ensures pairs { (n : Net) (x : T) → (⟦<TrieRef<'a, P, T> as TrieView<'a>>⟧.told result).at n x ↔ Within self.now n x }
+    {
+        self.view_counted(&mut Steps::start())
+    }
+
+    /// The walk over the entries, in the order of their prefixes.
+    pub fn iter<'a>(&'a self) -> Result<ViewIter<TrieRef<'a, P, T>>, NoMemory>
+        ensures usable { IfOk result (λ walk. CanWalk ⟦<TrieRef<'a, P, T> as TrieView<'a>>⟧.valid ⟦<TrieRef<'a, P, T> as TrieView<'a>>⟧.told P.Number.width walk) }
+        ensures frugal { IfOk result (λ walk. IsFrugalWalk ⟦<TrieRef<'a, P, T> as TrieView<'a>>⟧.told walk) }
+        ensures whole { IfOk result (λ walk. (n : Net) (x : T) → ToCome ⟦<TrieRef<'a, P, T> as TrieView<'a>>⟧.told walk n x ↔ Within self.now n x) }
+    {
+        ViewIter::new(self.alloc, self.view())
+    }
+}
+
+impl<P: Place, T: Drop> PrefixMap<P, T> {
+    /// Sets the value of a prefix, and gives the value that was there. All room is taken first: a
+    /// refusal changes nothing, and hands the prefix and the value back.
+    pub fn insert(&mut self, prefix: P, value: T) -> Result<Option<T>, (NoMemory, P, T)>
+        requires { (P.net prefix).len ≤ P.Number.width }
+        ensures was { IfOk result (λ was. was ≡ value_at self.old (P.net prefix)) }
+        ensures entry { OnOk result (self.new ≡ inserted P.Number.width self.old (P.net prefix) value) }
+        ensures unchanged { OnErr result (self.new ≡ self.old) }
+        ensures back { IfErr result (λ e. (e.1 ≡ prefix) × (e.2 ≡ value)) }
+    {
+        if self.count == usize::MAX {
+            return Err((NoMemory, prefix, value));
+        }
+        let key = prefix.number();
+        match put(
+            self.alloc,
+            &mut self.root,
+            0,
+            key,
+            prefix.length() as u32,
+            value,
+        ) {
+            Ok(was) => {
+                self.count = count_with(self.count, &was);
+                Ok(was)
+            }
+            Err(refused) => Err((NoMemory, prefix, refused.value)),
+        }
+    }
+
+    /// Takes a prefix out, and gives its value. Nodes that are left with nothing are dropped.
+    pub fn remove(&mut self, prefix: &P) -> Option<T>
+        requires { (P.net prefix.now).len ≤ P.Number.width }
+        ensures was { result ≡ value_at self.old (P.net prefix.now) }
+        ensures gone { self.new ≡ removed self.old (P.net prefix.now) }
+    {
+        let key = prefix.number();
+        let was = take(&mut self.root, 0, key, prefix.length() as u32);
+        self.count = count_without(self.count, &was);
+        was
+    }
+}
+
+impl<'a, P: Place, T> AsView<'a> for &'a PrefixMap<P, T> {
+    type View = TrieRef<'a, P, T>;
+
+    ghost can_view = { λ m. ⊤ };
+
+    fn view(self) -> TrieRef<'a, P, T>
+        ensures usable { ⟦<TrieRef<'a, P, T> as TrieView<'a>>⟧.valid result }
+        ensures pairs { (n : Net) (x : T) → (⟦<TrieRef<'a, P, T> as TrieView<'a>>⟧.told result).at n x ↔ Within self.entry.now n x }
+    {
+        self.view_counted(&mut Steps::start())
+    }
+}
+
+/// The count after an entry was set, from what was there.
+fn count_with<T>(count: usize, was: &Option<T>) -> usize
+    requires { count + 1 < 2 ^ 64 }
+    ensures { result ≡ count + missing was.now }
+{
+    match was {
+        Some(_) => count,
+        None => count + 1,
+    }
+}
+
+/// The count after an entry was taken out.
+fn count_without<T>(count: usize, was: &Option<T>) -> usize
+    requires { present was.now ≤ count }
+    ensures { result ≡ count - present was.now }
+{
+    match was {
+        Some(_) => count - 1,
+        None => count,
+    }
+}

@@ -1,0 +1,87 @@
+//! Look-ups in a trie.
+
+ghost use Rattle.std.specs.Prelude.{◌≡◌, ℕ, ◌+◌, ◌<◌, ◌≤◌, min};
+ghost use Rattle.trie_map.specs.Forms.{node_form};
+ghost use Rattle.trie_model.specs.Nets.{Net, IsNet};
+ghost use Rattle.trie_model.specs.Puts.{Gets};
+ghost use Rattle.trie_model.specs.Longest.{LongestIn};
+ghost use Rattle.trie_model.specs.Tries.{Good, NodeOk};
+
+use super::{Node, Steps, Visited, child_toward, visit};
+use crate::masks::{data_bit, data_lpm_mask, level};
+use crate::prefix::Word;
+
+/// The item of a prefix.
+pub fn find<'a, W: Word, T, L>(
+    node: &'a Node<T>,
+    depth: u32,
+    key: W,
+    len: u32,
+    steps: &mut Steps<L>,
+) -> Option<&'a T>
+    requires good { (k : ℕ) → Good node_form W.width k depth node.now }
+    requires net { IsNet W.width (record { bits = W.number key; len = len }) }
+    requires low { depth ≤ len }
+    ensures { Gets (λ r. r.now) node_form W.width depth (record { bits = W.number key; len = len }) node.now result }
+{
+    let here = visit(node, steps);
+    if len - depth < 5 {
+        let bit = data_bit(depth, key, len);
+        if here.data_bitmap() >> bit & 1 == 1 {
+            return Some(here.item(bit));
+        }
+        return None;
+    }
+    let bit = child_toward(depth, key);
+    if here.child_bitmap() >> bit & 1 == 1 {
+        return find(here.child(bit), depth + 5, key, len, steps);
+    }
+    None
+}
+
+/// The longest prefix of a key in the node itself that has an item: its length, and the item.
+fn longest_here<'a, W: Word, T>(
+    here: &Visited<'a, T>,
+    depth: u32,
+    key: W,
+    len: u32,
+) -> Option<(u32, &'a T)>
+    requires node { NodeOk node_form W.width depth here.now.node.now }
+    requires net { IsNet W.width (record { bits = W.number key; len = len }) }
+    requires low { depth ≤ len }
+    ensures { LongestIn (λ r. r.0) (λ r. r.1.now) node_form W.width depth (W.number key) here.now.node.now depth (min len (depth + 4)) result }
+{
+    let inside = here.data_bitmap() & data_lpm_mask(depth, key, len);
+    if inside == 0 {
+        return None;
+    }
+    let bit = 31 - inside.leading_zeros();
+    Some((depth + level(bit), here.item(bit)))
+}
+
+/// The longest prefix of a key that has an item in the node or below it: its length, and the item.
+pub fn longest<'a, W: Word, T, L>(
+    node: &'a Node<T>,
+    depth: u32,
+    key: W,
+    len: u32,
+    steps: &mut Steps<L>,
+) -> Option<(u32, &'a T)>
+    requires good { (k : ℕ) → Good node_form W.width k depth node.now }
+    requires net { IsNet W.width (record { bits = W.number key; len = len }) }
+    requires low { depth ≤ len }
+    ensures { LongestIn (λ r. r.0) (λ r. r.1.now) node_form W.width depth (W.number key) node.now depth len result }
+{
+    let here = visit(node, steps);
+    if len - depth < 5 {
+        return longest_here(&here, depth, key, len);
+    }
+    let bit = child_toward(depth, key);
+    if here.child_bitmap() >> bit & 1 == 1 {
+        return match longest(here.child(bit), depth + 5, key, len, steps) {
+            Some(found) => Some(found),
+            None => longest_here(&here, depth, key, len),
+        };
+    }
+    longest_here(&here, depth, key, len)
+}

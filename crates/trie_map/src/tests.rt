@@ -1,0 +1,197 @@
+//! Each public call once, and the places where nodes meet.
+
+use crate::{
+    Prefix, PrefixMap, PrefixSet, Steps, TrieView, child_bit, child_cover_mask,
+    child_cover_mask_for_bit, data_bit, data_cover_mask, data_cover_mask_for_bit, data_lpm_mask,
+    extend_repr, mask_from_prefix_len, reconstruct_prefix,
+};
+use std::test::Fail;
+
+#[test]
+fn masks_of_a_node(rt: HostRuntime) -> Result<(), Fail> {
+    assert_eq!(rt; data_bit(0, 0xC000_0000u32, 2), 6);
+    assert_eq!(rt; data_bit(30, 3u32, 32), 6);
+    assert_eq!(rt; child_bit(0, 0xF800_0000u32), 31);
+    assert_eq!(rt; child_bit(30, 3u32), 24);
+    assert_eq!(rt; data_lpm_mask(0, 0xC000_0000u32, 2), 69);
+    assert_eq!(rt; data_lpm_mask(0, 0xC000_0000u32, 9), 0x0800_2045);
+    assert_eq!(rt; data_cover_mask(0, 0x8000_0000u32, 1), 0x7F80_7864);
+    assert_eq!(rt; child_cover_mask(0, 0x8000_0000u32, 1), 0xFFFF_0000);
+    assert_eq!(rt; data_cover_mask_for_bit(0), 0x7FFF_FFFF);
+    assert_eq!(rt; data_cover_mask_for_bit(2), 0x7F80_7864);
+    assert_eq!(rt; child_cover_mask_for_bit(2), 0xFFFF_0000);
+    assert_eq!(rt; extend_repr(0x0800_0000u32, 5, 1), 0x0840_0000);
+    let prefix: (u32, u8) = reconstruct_prefix(5, 0x0800_0000u32, 2);
+    assert_eq!(rt; prefix, (0x0C00_0000, 6));
+    assert_eq!(rt; mask_from_prefix_len::<u32>(8), 0xFF00_0000);
+    assert_eq!(rt; mask_from_prefix_len::<u128>(0), 0);
+    Ok(())
+}
+
+#[test]
+fn prefixes_of_three_widths(rt: HostRuntime) -> Result<(), Fail> {
+    let prefix: (u32, u8) = Prefix::from_repr_len(0x0A01_0203, 16);
+    assert_eq!(rt; prefix, (0x0A01_0000, 16));
+    assert_eq!(rt; (0x0A01_0203u32, 8u8).mask(), 0x0A00_0000);
+    assert_eq!(rt; (0x0A01_0203u32, 8u8).repr(), 0x0A01_0203);
+    assert_eq!(rt; (0x0A01_0203u32, 8u8).prefix_len(), 8);
+    assert_eq!(rt; <(u64, u8) as Prefix>::num_bits(), 64);
+    assert!(rt; (7u64, 0u8).contains(&(9, 64)));
+    assert!(rt; !(1u128 << 127, 1u8).contains(&(1, 128)));
+    Ok(())
+}
+
+#[test]
+fn longest_matches(rt: HostRuntime) -> Result<(), Fail> {
+    let mut map: PrefixMap<(u32, u8), u32> = PrefixMap::new(rt.alloc());
+    assert_eq!(rt;
+        map.get_lpm(&(0x0A01_0203, 32))
+            .map(|found| (found.0, *found.1)),
+        None
+    );
+    assert_eq!(rt; map.insert((0, 0), 1), Ok(None));
+    assert_eq!(rt; map.insert((0x0A01_0203, 32), 4), Ok(None));
+    assert_eq!(rt; map.insert((0x0A00_0000, 8), 2), Ok(None));
+    assert_eq!(rt; map.insert((0x0A01_0000, 16), 3), Ok(None));
+    assert_eq!(rt;
+        map.get_lpm(&(0x0A01_0203, 32))
+            .map(|found| (found.0, *found.1)),
+        Some(((0x0A01_0203, 32), 4))
+    );
+    assert_eq!(rt;
+        map.get_lpm(&(0x0A01_0204, 32))
+            .map(|found| (found.0, *found.1)),
+        Some(((0x0A01_0000, 16), 3))
+    );
+    assert_eq!(rt;
+        map.get_lpm(&(0x0A02_0304, 32))
+            .map(|found| (found.0, *found.1)),
+        Some(((0x0A00_0000, 8), 2))
+    );
+    assert_eq!(rt;
+        map.get_lpm(&(0x0A01_0203, 15))
+            .map(|found| (found.0, *found.1)),
+        Some(((0x0A00_0000, 8), 2))
+    );
+    assert_eq!(rt;
+        map.get_lpm(&(0xFFFF_FFFF, 0))
+            .map(|found| (found.0, *found.1)),
+        Some(((0, 0), 1))
+    );
+    Ok(())
+}
+
+#[test]
+fn longest_matches_of_128_bits(rt: HostRuntime) -> Result<(), Fail> {
+    let mut map: PrefixMap<(u128, u8), u32> = PrefixMap::new(rt.alloc());
+    assert_eq!(rt; map.insert((0, 0), 1), Ok(None));
+    assert_eq!(rt; map.insert((5, 128), 2), Ok(None));
+    assert_eq!(rt; map.insert((4, 127), 3), Ok(None));
+    assert_eq!(rt;
+        map.get_lpm(&(5, 128)).map(|found| (found.0, *found.1)),
+        Some(((5, 128), 2))
+    );
+    assert_eq!(rt;
+        map.get_lpm(&(4, 128)).map(|found| (found.0, *found.1)),
+        Some(((4, 127), 3))
+    );
+    assert_eq!(rt;
+        map.get_lpm(&(6, 128)).map(|found| (found.0, *found.1)),
+        Some(((0, 0), 1))
+    );
+    Ok(())
+}
+
+#[test]
+fn every_length(rt: HostRuntime) -> Result<(), Fail> {
+    let mut map: PrefixMap<(u32, u8), u8> = PrefixMap::new(rt.alloc());
+    for len in 0..33u8 {
+        assert_eq!(rt; map.insert((0xFFFF_FFFF, len), len), Ok(None));
+        assert_eq!(rt; map.insert((0xFFFF_FFFF, len), len), Ok(Some(len)));
+    }
+    assert_eq!(rt; map.len(), 33);
+    for len in 0..33u8 {
+        assert_eq!(rt; map.get(&(0xFFFF_FFFF, len)).copied(), Some(len));
+        assert_eq!(rt; map.contains_key(&(0x7FFF_FFFF, len)), len == 0);
+    }
+    for len in 0..33u8 {
+        assert_eq!(rt; map.remove(&(0xFFFF_FFFF, len)), Some(len));
+        assert_eq!(rt; map.remove(&(0xFFFF_FFFF, len)), None);
+        assert_eq!(rt;
+            map.get_lpm(&(0xFFFF_FFFF, len)).map(|found| *found.1),
+            None
+        );
+    }
+    assert!(rt; map.is_empty());
+    Ok(())
+}
+
+#[test]
+fn sets(rt: HostRuntime) -> Result<(), Fail> {
+    let mut set: PrefixSet<(u32, u8)> = PrefixSet::new(rt.alloc());
+    assert!(rt; set.is_empty());
+    assert_eq!(rt; set.insert((0x0A00_00FF, 24)), Ok(true));
+    assert_eq!(rt; set.insert((0x0A00_0000, 24)), Ok(false));
+    assert!(rt; set.contains(&(0x0A00_0001, 24)));
+    assert_eq!(rt; set.len(), 1);
+    assert!(rt; set.remove(&(0x0A00_0000, 24)));
+    assert!(rt; !set.remove(&(0x0A00_0000, 24)));
+    Ok(())
+}
+
+#[test]
+fn walks_in_order(rt: HostRuntime) -> Result<(), Fail> {
+    let mut map: PrefixMap<(u32, u8), u32> = PrefixMap::new(rt.alloc());
+    assert_eq!(rt; map.insert((0xC0A8_0100, 24), 5), Ok(None));
+    assert_eq!(rt; map.insert((0, 0), 1), Ok(None));
+    assert_eq!(rt; map.insert((0x0A01_0000, 16), 3), Ok(None));
+    assert_eq!(rt; map.insert((0x0A00_0000, 8), 2), Ok(None));
+    assert_eq!(rt; map.insert((0x0A01_0203, 32), 4), Ok(None));
+    let Ok(mut walk) = map.iter() else {
+        return Err("no memory".into());
+    };
+    assert_eq!(rt;
+        walk.next()
+            .map(|pair| pair.map(|found| (found.0, *found.1))),
+        Some(Ok(((0, 0), 1)))
+    );
+    assert_eq!(rt;
+        walk.next()
+            .map(|pair| pair.map(|found| (found.0, *found.1))),
+        Some(Ok(((0x0A00_0000, 8), 2)))
+    );
+    assert_eq!(rt;
+        walk.next()
+            .map(|pair| pair.map(|found| (found.0, *found.1))),
+        Some(Ok(((0x0A01_0000, 16), 3)))
+    );
+    assert_eq!(rt;
+        walk.next()
+            .map(|pair| pair.map(|found| (found.0, *found.1))),
+        Some(Ok(((0x0A01_0203, 32), 4)))
+    );
+    assert_eq!(rt;
+        walk.next()
+            .map(|pair| pair.map(|found| (found.0, *found.1))),
+        Some(Ok(((0xC0A8_0100, 24), 5)))
+    );
+    assert_eq!(rt;
+        walk.next()
+            .map(|pair| pair.map(|found| (found.0, *found.1))),
+        None
+    );
+    Ok(())
+}
+
+#[test]
+fn views_count_their_nodes(rt: HostRuntime) -> Result<(), Fail> {
+    let mut set: PrefixSet<(u32, u8)> = PrefixSet::new(rt.alloc());
+    assert_eq!(rt; set.insert((0x0800_0000, 5)), Ok(true));
+    let mut steps = Steps::start();
+    let view = set.view_counted(&mut steps);
+    assert_eq!(rt; (view.depth(), view.key(), view.prefix_len()), (0, 0, 0));
+    assert_eq!(rt; (view.data_bitmap(), view.child_bitmap()), (0, 2));
+    assert!(rt; view.frugal());
+    assert_eq!(rt; steps.count(), 1);
+    Ok(())
+}

@@ -1,0 +1,15 @@
+pub mod CountLaws
+pub mod FullLaws
+pub mod HeapLaws
+pub mod Levels
+pub mod LongestLaws
+pub mod MapLaws
+pub mod MaskLaws
+pub mod Places
+pub mod PutLaws
+pub mod RoomLaws
+pub mod TrieLaws
+pub mod TrieMaps
+pub mod WalkLaws
+pub mod WalkSteps
+pub mod WorkLaws

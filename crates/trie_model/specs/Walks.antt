@@ -1,0 +1,83 @@
+-- What a walk over a view has still to give, and the list that it gives.
+use Rattle.std.specs.Prelude.{◌≡◌, ◌↔◌, ◌⊎◌, ⊤, ℕ, ◌+◌, ◌-◌, ◌*◌, ◌/◌, ◌^◌, ◌<◌, ◌≤◌, false, List, [], ◌∷◌, IsTrue}
+use Rattle.trie_model.specs.Nets.{Net}
+use Rattle.trie_model.specs.Views.{Told, IsView, depth_at, same_net}
+use Rattle.trie_model.specs.Heap.{rank_at, spot_of, order_key}
+
+-- ---- what a stack has still to give
+
+-- the pairs of the views of a stack
+unfoldable pub Left : {L X : Type 0} → (L → Told X) → List L → Net → X → Type 0
+Left tell [] n x = ⊥
+Left tell (l ∷ ls) n x = (tell l).at n x ⊎ Left tell ls n x
+
+-- what stands higher in the stack comes first
+unfoldable pub Sorted : {L X : Type 0} → ℕ → (L → Told X) → List L → Type 0
+Sorted w tell [] = ⊤
+Sorted {L} {X} w tell (l ∷ ls) = ((n m : Net) (x y : X) → Left tell ls n x → (tell l).at m y → order_key w n < order_key w m) × Sorted w tell ls
+
+-- no pair of the view lies before the spot
+unfoldable pub Ahead : {X : Type 0} → ℕ → Told X → ℕ → Type 0
+Ahead {X} w t h = (n : Net) (x : X) → t.at n x → rank_at h ≤ rank_at (spot_of w (depth_at t.place.len) n)
+
+-- a level of the stack
+pub record LevelOk {L X : Type 0} (good : L → Type 0) (tell : L → Told X) (spot : L → ℕ) (w : ℕ) (l : L) : Type 0 where
+  pub usable : good l
+  pub view : IsView w (tell l)
+  pub first : 1 ≤ spot l
+  pub last : spot l ≤ 64
+  pub ahead : Ahead w (tell l) (spot l)
+
+-- each level may be walked on
+unfoldable pub EachOk : {L X : Type 0} → (L → Type 0) → (L → Told X) → (L → ℕ) → ℕ → List L → Type 0
+EachOk good tell spot w [] = ⊤
+EachOk good tell spot w (l ∷ ls) = LevelOk good tell spot w l × EachOk good tell spot w ls
+
+-- a stack that may be walked on
+pub record WalkOk {L X : Type 0} (good : L → Type 0) (tell : L → Told X) (spot : L → ℕ) (w : ℕ) (ls : List L) : Type 0 where
+  pub each : EachOk good tell spot w ls
+  pub sorted : Sorted w tell ls
+
+-- n is the first of what is left, and the others stay
+pub record Gives {L X : Type 0} (w : ℕ) (tell : L → Told X) (old new : List L) (n : Net) (x : X) : Type 0 where
+  pub had : Left tell old n x
+  pub least : (m : Net) (y : X) → Left tell new m y → order_key w n < order_key w m
+  pub others : (m : Net) (y : X) → Left tell new m y ↔ (Left tell old m y × (same_net n m ≡ false))
+
+-- the pair is one of the list
+unfoldable pub Within : {X : Type 0} → List (Net × X) → Net → X → Type 0
+Within [] n x = ⊥
+Within (p ∷ ps) n x = ((p.0 ≡ n) × (p.1 ≡ x)) ⊎ Within ps n x
+
+-- each pair of the list comes before those behind it
+unfoldable pub Ascends : {X : Type 0} → ℕ → List (Net × X) → Type 0
+Ascends w [] = ⊤
+Ascends {X} w (p ∷ ps) = ((n : Net) (x : X) → Within ps n x → order_key w p.0 < order_key w n) × Ascends w ps
+
+-- the list of the pairs of a relation, in order
+pub record IsListOf {X : Type 0} (w : ℕ) (at : Net → X → Type 0) (ps : List (Net × X)) : Type 0 where
+  pub ascends : Ascends w ps
+  pub same : (n : Net) (x : X) → Within ps n x ↔ at n x
+
+-- how much walking a level has still to do at most: its spots, and those of each child
+unfoldable pub level_work : {L X : Type 0} → ℕ → (L → Told X) → (L → ℕ) → L → ℕ
+level_work w tell spot l = (197 - rank_at (spot l)) * 2 ^ (8 * ((w - depth_at (tell l).place.len) / 5 + 1)) + 1
+
+-- the same of a stack
+unfoldable pub work : {L X : Type 0} → ℕ → (L → Told X) → (L → ℕ) → List L → ℕ
+work w tell spot [] = 0
+work w tell spot (l ∷ ls) = level_work w tell spot l + work w tell spot ls
+
+-- a fact of each level, with its place in the stack
+unfoldable pub EachFrom : {L : Type 0} → (ℕ → L → Type 0) → ℕ → List L → Type 0
+EachFrom Q i [] = ⊤
+EachFrom Q i (l ∷ ls) = Q i l × EachFrom Q (i + 1) ls
+
+-- the levels stand at ever deeper nodes, and the stack has room for as many as there can be
+pub record Roomy {L X : Type 0} (w : ℕ) (tell : L → Told X) (ls : List L) (capacity : ℕ) : Type 0 where
+  pub room : w / 5 + 1 ≤ capacity
+  pub deeper : EachFrom (λ i l. 5 * i ≤ (tell l).place.len) 0 ls
+
+-- no view of the stack takes memory
+abbrev pub AllFrugal : {L X : Type 0} → (L → Told X) → List L → Type 0
+AllFrugal tell ls = EachFrom (λ i l. IsTrue (tell l).frugal) 0 ls
