@@ -1,5 +1,7 @@
+pub mod Codec
 pub mod Noted
 pub mod Numbers
 pub mod Pending
 pub mod Refused
 pub mod Session
+pub mod Walk

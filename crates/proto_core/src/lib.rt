@@ -1,11 +1,16 @@
-//! A session over netlink: requests get numbers, replies find the request that awaits them.
+//! The session and the codec of netlink: requests get numbers, replies find the request that awaits
+//! them, and datagrams are cut into messages.
 #![tactic(auto)]
 
+mod codec;
+mod laws;
 mod messages;
 mod pending;
 mod protocol;
 mod request;
 
+pub use codec::{CodecError, Decoded, NetlinkCodec, NetlinkMessageCodec};
+pub use laws::codec_follows_cut;
 pub use messages::{Handled, Incoming, Outgoing, Place, Response};
 pub use protocol::Protocol;
 pub use request::{ExpectResponse, Request, RequestRefusal};

@@ -3,7 +3,7 @@ use nl_core::{Items, NetlinkMessage};
 use session_model::SocketAddr;
 
 /// A message that a request awaited.
-#[derive(PartialEq, Eq, Drop)]
+#[derive(Debug, PartialEq, Eq, Drop)]
 pub struct Response<T, M> {
     /// Whether the number is awaited no longer.
     pub done: bool,
@@ -15,7 +15,7 @@ pub struct Response<T, M> {
 }
 
 /// A message that nothing awaited.
-#[derive(PartialEq, Eq, Drop)]
+#[derive(Debug, PartialEq, Eq, Drop)]
 pub struct Incoming<T> {
     pub message: NetlinkMessage<T>,
     pub source: SocketAddr,
@@ -24,7 +24,7 @@ pub struct Incoming<T> {
 }
 
 /// Messages to be sent as one datagram.
-#[derive(PartialEq, Eq, Drop)]
+#[derive(Debug, PartialEq, Eq, Drop)]
 pub struct Outgoing<T> {
     pub messages: Items<NetlinkMessage<T>>,
     pub destination: SocketAddr,

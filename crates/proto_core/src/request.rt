@@ -18,7 +18,7 @@ use std::alloc::AllocError;
 use thiserror::Error;
 
 /// Which messages of a request await a reply.
-#[derive(PartialEq, Eq, Drop)]
+#[derive(Debug, PartialEq, Eq, Drop)]
 pub enum ExpectResponse {
     /// Those with one of the flags `NLM_F_REQUEST`, `NLM_F_ACK` and `NLM_F_ECHO`.
     FromFlags,
@@ -27,7 +27,7 @@ pub enum ExpectResponse {
 }
 
 /// Messages that leave together, under a tag that their replies bring back.
-#[derive(PartialEq, Eq, Drop)]
+#[derive(Debug, PartialEq, Eq, Drop)]
 pub struct Request<T, M> {
     pub metadata: M,
     pub messages: Items<NetlinkMessage<T>>,

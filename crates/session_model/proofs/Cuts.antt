@@ -81,7 +81,7 @@ tests_fail n l h = by (nat_le 16 n) (nat_le 16 l) (nat_le l n) refl refl refl h
     by true true false x y z e = inr (inr (grind (arith, nat_tests)))
     by true true true x y z e = inl (let u : true ≡ false = e in grind (arith, nat_tests, u))
 
-begins_not : (bytes : List ℕ) → BeginsNone bytes → begins bytes ≡ false
+pub begins_not : (bytes : List ℕ) → BeginsNone bytes → begins bytes ≡ false
 begins_not bytes h = by (nat_le 16 (length bytes)) (nat_le 16 (length_at bytes)) (nat_le (length_at bytes) (length bytes)) refl refl refl h
   where
     by : (a b c : Bool) → nat_le 16 (length bytes) ≡ a → nat_le 16 (length_at bytes) ≡ b → nat_le (length_at bytes) (length bytes) ≡ c → BeginsNone bytes → ((a && b) && c) ≡ false
@@ -130,7 +130,7 @@ pub is_cut : (bytes : List ℕ) → IsCut bytes (frames_of bytes) (rest_of bytes
 is_cut bytes = is_cut_within (length bytes) bytes (omega arith)
 
 -- a frame in front of bytes begins them
-begins_with : (frame more : List ℕ) → IsFrame frame → (length_at (frame ++ more) ≡ length frame) × (begins (frame ++ more) ≡ true)
+pub begins_with : (frame more : List ℕ) → IsFrame frame → (length_at (frame ++ more) ≡ length frame) × (begins (frame ++ more) ≡ true)
 begins_with frame more h =
     let t = length_at-append frame more (let x = h.header in omega (arith, x)) in
     let l : length_at (frame ++ more) ≡ length frame = t ∙ h.whole in

@@ -6,4 +6,5 @@ pub mod Distinct
 pub mod Sent
 pub mod Open
 pub mod Cuts
+pub mod Fronts
 pub mod Taking
