@@ -1,5 +1,5 @@
 // Sessions of raw messages of type 1000, tagged 5, with a peer at port 7.
-ghost use Rattle.std.specs.Prelude.{◌≡◌, ◌+◌, ◌<◌};
+ghost use Rattle.std.specs.Prelude.{◌≡◌, ◌+◌, ◌<◌, IfOk};
 
 use crate::*;
 use nl_core::{
@@ -28,31 +28,20 @@ fn message(alloc: Global, flags: u16, number: u32, port: u32) -> NetlinkMessage<
     NetlinkMessage { header, payload }
 }
 
-// A request of `count` messages whose headers have number 99.
+// A request of one message whose header has number 99.
 fn request(
     alloc: Global,
     flags: u16,
-    count: usize,
     expect_response: ExpectResponse,
 ) -> Result<Request<RawMessage, u8>, NoMemory> {
     let mut messages = Items::new(alloc);
-    for _ in 0..count {
-        messages.push(message(alloc, flags, 99, 0))?;
-    }
+    messages.push(message(alloc, flags, 99, 0))?;
     Ok(Request {
         metadata: 5,
         messages,
         destination: PEER,
         expect_response,
     })
-}
-
-fn marks(alloc: Global, bits: &[bool]) -> Result<ExpectResponse, NoMemory> {
-    let mut marks = Items::new(alloc);
-    for bit in bits {
-        marks.push(*bit)?;
-    }
-    Ok(ExpectResponse::Explicit(marks))
 }
 
 fn send(session: &mut Session, request: Request<RawMessage, u8>) -> Result<(), Fail>
@@ -64,16 +53,29 @@ fn send(session: &mut Session, request: Request<RawMessage, u8>) -> Result<(), F
     }
 }
 
+// A session that has sent one message.
+fn asked(alloc: Global, flags: u16, expect_response: ExpectResponse) -> Result<Session, Fail>
+    ensures { IfOk result (λ s. s.session.arrived ≡ 0) }
+{
+    let mut session = Protocol::new(alloc);
+    send(&mut session, request(alloc, flags, expect_response)?)?;
+    Ok(session)
+}
+
+// Where a message under a number goes that came from a port.
 fn take_in(
+    alloc: Global,
     session: &mut Session,
-    message: NetlinkMessage<RawMessage>,
+    flags: u16,
+    number: u32,
     port: u32,
 ) -> Result<Handled<u8>, NoMemory>
     requires { session.old.session.arrived < 9 }
     ensures { session.new.session.arrived < session.old.session.arrived + 2 }
 {
     session.reserve(1)?;
-    Ok(session.handle_message(message, SocketAddr { port, groups: 0 }))
+    let source = SocketAddr { port, groups: 0 };
+    Ok(session.handle_message(message(alloc, flags, number, 7), source))
 }
 
 #[test]
@@ -81,104 +83,99 @@ fn flags_say_what_is_awaited(rt: HostRuntime) -> Result<(), Fail> {
     let alloc = rt.alloc();
     let rows = [(NLM_F_REQUEST, 1), (NLM_F_ACK, 1), (NLM_F_ECHO, 1), (0, 0)];
     for (flags, pending) in rows {
-        let mut session = Protocol::new(alloc);
-        send(
-            &mut session,
-            request(alloc, flags, 1, ExpectResponse::FromFlags)?,
-        )?;
+        let session = asked(alloc, flags, ExpectResponse::FromFlags)?;
         assert_eq!(rt; session.pending_len(), pending, "at {flags}");
-        assert_eq!(rt; session.is_pending(1, 7), pending == 1, "at {flags}");
-        assert_eq!(rt; session.outgoing_len(), 1);
-        let sent = session.next_outgoing().ok_or("nothing is sent")?;
-        assert_eq!(rt; sent.destination, PEER);
-        assert_eq!(rt; sent.messages.len(), 1);
-        assert!(rt;
-            sent.messages.as_slice()[0] == message(alloc, flags, 1, 0),
-            "at {flags}"
-        );
-        assert!(rt; session.next_outgoing().is_none());
     }
+    Ok(())
+}
+
+#[test]
+fn a_request_leaves_under_the_next_number(rt: HostRuntime) -> Result<(), Fail> {
+    let alloc = rt.alloc();
+    let mut session = asked(alloc, NLM_F_REQUEST, ExpectResponse::FromFlags)?;
+    assert_eq!(rt; (session.sequence_id(), session.outgoing_len()), (1, 1));
+    let sent = session.next_outgoing().ok_or("nothing is sent")?;
+    assert_eq!(rt; sent.destination, PEER);
+    let mut messages = Items::new(alloc);
+    messages.push(message(alloc, NLM_F_REQUEST, 1, 0))?;
+    assert!(rt; sent.messages == messages);
+    assert!(rt; session.next_outgoing().is_none());
     Ok(())
 }
 
 #[test]
 fn marks_say_what_is_awaited(rt: HostRuntime) -> Result<(), Fail> {
     let alloc = rt.alloc();
+    let mut marks = Items::new(alloc);
+    marks.push(true)?;
+    marks.push(false)?;
+    let mut two = request(alloc, 0, ExpectResponse::Explicit(marks))?;
+    two.messages.push(message(alloc, 0, 99, 0))?;
     let mut session = Protocol::new(alloc);
-    send(
-        &mut session,
-        request(alloc, 0, 2, marks(alloc, &[true, false])?)?,
-    )?;
+    send(&mut session, two)?;
     assert_eq!(rt; session.pending_len(), 1);
     assert_eq!(rt;
         (session.is_pending(1, 7), session.is_pending(2, 7)),
         (true, false)
     );
     assert_eq!(rt; session.is_pending(1, 0), false);
+    Ok(())
+}
 
-    send(
-        &mut session,
-        request(alloc, NLM_F_ACK, 1, marks(alloc, &[false])?)?,
-    )?;
-    assert_eq!(rt; (session.sequence_id(), session.pending_len()), (3, 1));
-    let handled = take_in(&mut session, message(alloc, 0, 3, 0), 7)?;
+#[test]
+fn what_is_not_awaited_is_unsolicited(rt: HostRuntime) -> Result<(), Fail> {
+    let alloc = rt.alloc();
+    let mut marks = Items::new(alloc);
+    marks.push(false)?;
+    let mut session = asked(alloc, NLM_F_ACK, ExpectResponse::Explicit(marks))?;
+    let handled = take_in(alloc, &mut session, 0, 1, 7)?;
     assert_eq!(rt; (handled.arrival, handled.to), (1, Place::Unsolicited));
-    assert_eq!(rt; session.incoming_len(), 1);
     let incoming = session.next_incoming().ok_or("nothing came")?;
     assert_eq!(rt; (incoming.source, incoming.arrival), (PEER, 1));
-    assert!(rt; incoming.message == message(alloc, 0, 3, 0));
+    assert!(rt; incoming.message == message(alloc, 0, 1, 7));
     assert!(rt; session.next_incoming().is_none());
     Ok(())
 }
 
 #[test]
-fn replies_come_under_an_awaited_number_from_its_port(rt: HostRuntime) -> Result<(), Fail> {
+fn the_last_reply_ends_its_number(rt: HostRuntime) -> Result<(), Fail> {
     let alloc = rt.alloc();
-    let last = Place::Reply {
-        metadata: 5,
-        done: true,
-    };
+    let mut session = asked(alloc, NLM_F_REQUEST, ExpectResponse::FromFlags)?;
+    let foreseen = session.foresee(&message(alloc, 0, 1, 7), PEER);
+    let handled = take_in(alloc, &mut session, 0, 1, 7)?;
+    assert_eq!(rt; handled, foreseen);
+    assert_eq!(rt; (session.pending_len(), session.responses_len()), (0, 1));
+    let response = session.next_response().ok_or("no reply")?;
+    assert_eq!(rt;
+        (response.metadata, response.done, response.arrival),
+        (5, true, 1)
+    );
+    assert!(rt; response.message == message(alloc, 0, 1, 7));
+    assert!(rt; session.next_response().is_none());
+    let again = take_in(alloc, &mut session, 0, 1, 7)?;
+    assert_eq!(rt; (again.arrival, again.to), (2, Place::Unsolicited));
+    Ok(())
+}
+
+#[test]
+fn other_replies_do_not(rt: HostRuntime) -> Result<(), Fail> {
+    let alloc = rt.alloc();
     let more = Place::Reply {
         metadata: 5,
         done: false,
     };
-    let none = Place::Unsolicited;
-    // flags of the request; number, source port and flags of the answer; where it goes, and once
-    // more; and how many numbers are awaited then
+    // flags of the request; flags, number and port of the answer, and where it goes
     let rows = [
-        (NLM_F_REQUEST, 1, 7, 0, last, none, 0),
-        (NLM_F_REQUEST, 1, 7, NLM_F_MULTIPART, more, more, 1),
-        (NLM_F_REQUEST | NLM_F_ACK, 1, 7, 0, more, more, 1),
-        (NLM_F_REQUEST, 1, 8, 0, none, none, 1),
-        (NLM_F_REQUEST, 2, 7, 0, none, none, 1),
+        (NLM_F_REQUEST, NLM_F_MULTIPART, 1, 7, more),
+        (NLM_F_REQUEST | NLM_F_ACK, 0, 1, 7, more),
+        (NLM_F_REQUEST, 0, 1, 8, Place::Unsolicited),
+        (NLM_F_REQUEST, 0, 2, 7, Place::Unsolicited),
     ];
-    for (asked, number, port, flags, first, second, pending) in rows {
-        let mut session = Protocol::with_start(alloc, 0);
-        send(
-            &mut session,
-            request(alloc, asked, 1, ExpectResponse::FromFlags)?,
-        )?;
-        let foreseen = session.foresee(
-            &message(alloc, flags, number, 7),
-            SocketAddr { port, groups: 0 },
-        );
-        assert_eq!(rt; (foreseen.arrival, foreseen.to), (1, first));
-        let handled = take_in(&mut session, message(alloc, flags, number, 7), port)?;
-        assert_eq!(rt; (handled.arrival, handled.to), (1, first));
-        let handled = take_in(&mut session, message(alloc, flags, number, 7), port)?;
-        assert_eq!(rt; (handled.arrival, handled.to), (2, second));
-        assert_eq!(rt; session.pending_len(), pending);
-        if first == none {
-            assert_eq!(rt; (session.responses_len(), session.incoming_len()), (0, 2));
-            assert!(rt; session.next_response().is_none());
-        } else {
-            let response = session.next_response().ok_or("no reply")?;
-            assert_eq!(rt;
-                (response.metadata, response.done, response.arrival),
-                (5, first == last, 1)
-            );
-            assert!(rt; response.message == message(alloc, flags, number, 7));
-        }
+    for (flags, answer, number, port, to) in rows {
+        let mut session = asked(alloc, flags, ExpectResponse::FromFlags)?;
+        assert_eq!(rt; take_in(alloc, &mut session, answer, number, port)?.to, to);
+        assert_eq!(rt; take_in(alloc, &mut session, answer, number, port)?.to, to);
+        assert_eq!(rt; session.pending_len(), 1);
     }
     Ok(())
 }
@@ -187,12 +184,9 @@ fn replies_come_under_an_awaited_number_from_its_port(rt: HostRuntime) -> Result
 fn numbers_come_to_their_end(rt: HostRuntime) -> Result<(), Fail> {
     let alloc = rt.alloc();
     let mut session = Protocol::with_start(alloc, 4_294_967_294);
-    send(
-        &mut session,
-        request(alloc, 1, 1, ExpectResponse::FromFlags)?,
-    )?;
+    send(&mut session, request(alloc, 1, ExpectResponse::FromFlags)?)?;
     assert_eq!(rt; session.sequence_id(), 4_294_967_295);
-    match session.request(request(alloc, 1, 1, ExpectResponse::FromFlags)?) {
+    match session.request(request(alloc, 1, ExpectResponse::FromFlags)?) {
         Ok(()) => assert!(rt; false, "a number past the last"),
         Err((refusal, back)) => {
             let used_up = RequestRefusal::SequenceExhausted {
@@ -200,7 +194,7 @@ fn numbers_come_to_their_end(rt: HostRuntime) -> Result<(), Fail> {
                 asked: 1,
             };
             assert_eq!(rt; refusal, used_up);
-            assert!(rt; back == request(alloc, 1, 1, ExpectResponse::FromFlags)?);
+            assert!(rt; back == request(alloc, 1, ExpectResponse::FromFlags)?);
         }
     }
     assert_eq!(rt; (session.pending_len(), session.outgoing_len()), (1, 1));
