@@ -1,3 +1,4 @@
+pub mod Choices
 pub mod Datagram
 pub mod Ends
 pub mod Errors
@@ -5,6 +6,6 @@ pub mod Feeds
 pub mod Halts
 pub mod Joined
 pub mod LineLaws
-pub mod OneWord
+pub mod Numerals
 pub mod Piece
 pub mod StepLaws

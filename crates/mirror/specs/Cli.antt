@@ -1,4 +1,4 @@
--- What the program's words mean, which status it ends with, and what it writes last.
+-- Which status the program ends with, and what it writes last.
 use Rattle.std.specs.Prelude.{◌≡◌, ◌⊎◌, ℕ, Bool, true, false, List, [], ◌∷◌, Option, IfSome, codes}
 use Rattle.std.specs.Fmt.{decimal}
 use Rattle.session_model.specs.declared.settings.Settings.{Settings}
@@ -9,10 +9,6 @@ use Rattle.session_model.specs.Lines.{line}
 use Rattle.mirror.specs.Faults.{IsWriting}
 use Rattle.mirror.specs.Io.{with_back}
 use Rattle.mirror.specs.Outcome.{GainedSome, WasEnded, WasRun}
-
--- The words are the one word `run`.
-abbrev pub AreRun : List (List ℕ) → Type 0
-AreRun words = words ≡ codes "run" ∷ []
 
 -- The exit status of a fault.
 abbrev pub fault_status : RunFault → ℕ

@@ -5,6 +5,7 @@ pub mod Feeding
 pub mod Format
 pub mod Io
 pub mod Memory
+pub mod Options
 pub mod Outcome
 pub mod Steps
 pub mod Words

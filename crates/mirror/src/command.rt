@@ -1,12 +1,14 @@
 // The program over any source and sink.
 ghost use Rattle.std.specs.Prelude.{◌≡◌, ◌≤◌, ◌↔◌, ◌++◌, IsTrue, OnOk, OnErr, IfErr, Err, map, string_bytes};
-ghost use Rattle.session_model.specs.Usual.{usual};
-ghost use Rattle.mirror.specs.Cli.{AreRun, HasFailed, Ran, WasTold, fault_status, ok_line};
+ghost use Rattle.session_model.specs.declared.settings.Settings.{Settings};
+ghost use Rattle.mirror.specs.Cli.{HasFailed, Ran, WasTold, fault_status, ok_line};
 ghost use Rattle.mirror.specs.Faults.{IsPlain, IsWriting};
 ghost use Rattle.mirror.specs.Io.{with_back, HasRisen};
+ghost use Rattle.mirror.specs.Options.{SpellSettings};
 ghost use Rattle.mirror.specs.Outcome.{GainedSome};
 
 use crate::io::{Sink, Source};
+use crate::options::read_words;
 use crate::program::run;
 use crate::progress::write_all;
 use crate::words::{Word, put_line};
@@ -20,17 +22,20 @@ const TOLD: u8 = 0;
 // The status of words that are not the program's.
 const OTHER_WORDS: u8 = 1;
 
-/// The program. The one word `run` runs the source's transcript under the usual settings, as `run` does, and then writes
-/// the line `ok LINES MESSAGES DROPPED OPEN STEP` of its report, where STEP is `yes` or `no`. The answer is the exit
-/// status: 0 where all of this is written; 1 for other words, and nothing is read or written then; and 2 to 9 for a
-/// fault: BadRecord, Closed, SequenceExhausted, Unfit, Limit, ReadFault, WriteFault and NoMemory. The last two come also
-/// where the last line could not be written.
+/// The program. Its words are `run` and then, in any order and each at most once, `limit=N`, `peer=N`, `table=N`,
+/// `start=N`, `noop`, `done` and `ack`; N is decimal without leading zeros, below 2^64 for `limit` and below 2^32 else. It
+/// runs the source's transcript under these settings, as `run` does, and then writes the line
+/// `ok LINES MESSAGES DROPPED OPEN STEP` of its report, where STEP is `yes` or `no`. The answer is the exit status: 0
+/// where all of this is written; 1 for other words, and nothing is read or written then; and 2 to 9 for a fault:
+/// BadRecord, Closed, SequenceExhausted, Unfit, Limit, ReadFault, WriteFault and NoMemory. The last two come also where the
+/// last line could not be written.
 pub fn cli<S: Source, K: Sink>(alloc: Global, words: &[String], input: &mut S, out: &mut K) -> u8
-    ensures ran { AreRun (map string_bytes words.now) → Ran usual (S.left input.old) (S.left input.new) (K.written out.old) (K.written out.new) result }
+    ensures ran { (settings : Settings) → SpellSettings (map string_bytes words.now) settings
+        → Ran settings (S.left input.old) (S.left input.new) (K.written out.old) (K.written out.new) result }
 
-    // Status 1 comes for other words alone, and leaves source and sink as they were.
-    ensures other { ¬ AreRun (map string_bytes words.now) → (result ≡ 1) × (input.new ≡ input.old) × (out.new ≡ out.old) }
-    ensures usage { result ≡ 1 → ¬ AreRun (map string_bytes words.now) }
+    // Status 1 comes exactly where the words spell no settings, and leaves source and sink as they were.
+    ensures other { ((settings : Settings) → ¬ (SpellSettings (map string_bytes words.now) settings)) → (result ≡ 1) × (input.new ≡ input.old) × (out.new ≡ out.old) }
+    ensures usage { result ≡ 1 → (settings : Settings) → ¬ (SpellSettings (map string_bytes words.now) settings) }
 
     // No link closes yet, and every frame that is read fits.
     ensures open { ¬ (result ≡ 3) }
@@ -38,22 +43,12 @@ pub fn cli<S: Source, K: Sink>(alloc: Global, words: &[String], input: &mut S, o
     ensures read_cause { result ≡ 7 → HasRisen (S.faults input.old) (S.faults input.new) }
     ensures write_cause { result ≡ 8 → HasRisen (K.faults out.old) (K.faults out.new) }
 {
-    if !are_run(words) {
+    let Some(settings) = read_words(words) else {
         return OTHER_WORDS;
-    }
-    match run_and_tell(alloc, input, out) {
+    };
+    match run_and_tell(alloc, input, out, &settings) {
         Ok(()) => TOLD,
         Err(fault) => status_of(fault),
-    }
-}
-
-// Whether the words are the one word `run`.
-fn are_run(words: &[String]) -> bool
-    ensures { IsTrue result ↔ AreRun (map string_bytes words.now) }
-{
-    match words {
-        [word] => word.as_str() == "run",
-        _ => false,
     }
 }
 
@@ -73,19 +68,20 @@ fn status_of(fault: RunFault) -> u8
     }
 }
 
-// Runs the source's transcript under the usual settings, and writes its report.
+// Runs the source's transcript under settings, and writes its report.
 fn run_and_tell<S: Source, K: Sink>(
     alloc: Global,
     input: &mut S,
     out: &mut K,
+    settings: &Settings,
 ) -> Result<(), RunFault>
-    ensures ok { OnOk result (WasTold usual (S.left input.old) (S.left input.new) (K.written out.old) (K.written out.new)) }
-    ensures failed { IfErr result (HasFailed usual (S.left input.old) (S.left input.new) (K.written out.old) (K.written out.new)) }
+    ensures ok { OnOk result (WasTold settings.now (S.left input.old) (S.left input.new) (K.written out.old) (K.written out.new)) }
+    ensures failed { IfErr result (HasFailed settings.now (S.left input.old) (S.left input.new) (K.written out.old) (K.written out.new)) }
     ensures only { IfErr result IsPlain }
     ensures read_cause { result ≡ Err RunFault.ReadFault → HasRisen (S.faults input.old) (S.faults input.new) }
     ensures write_cause { result ≡ Err RunFault.WriteFault → HasRisen (K.faults out.old) (K.faults out.new) }
 {
-    let report = run(alloc, input, out, &Settings::usual())?;
+    let report = run(alloc, input, out, settings)?;
     tell(alloc, &report, out)
 }
 

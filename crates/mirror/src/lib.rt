@@ -6,6 +6,7 @@ mod io;
 mod laws;
 mod memory;
 mod message;
+mod options;
 mod program;
 mod progress;
 mod records;
@@ -18,7 +19,7 @@ mod words;
 
 pub use command::cli;
 pub use io::{Read, Sink, Source, Wrote};
-pub use laws::one_outcome;
+pub use laws::{one_outcome, one_settings};
 pub use memory::{MemorySink, MemorySource};
 pub use message::Message;
 pub use program::run;

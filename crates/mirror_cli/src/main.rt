@@ -20,7 +20,9 @@ fn words(rt: &HostRuntime) -> io::Result<Vec<String>> {
 // What a status means, where it is no success.
 fn meaning(status: u8) -> Option<&'static str> {
     match status {
-        1 => Some("usage: mirror_cli run"),
+        1 => Some(
+            "usage: mirror_cli run [limit=N] [peer=N] [table=N] [start=N] [noop] [done] [ack]",
+        ),
         2 => Some("mirror_cli: a line of the input is no record"),
         3 => Some("mirror_cli: a record comes after a close"),
         4 => Some("mirror_cli: the sequence numbers are used up"),

@@ -1,0 +1,29 @@
+use Rattle.std.proofs.Common.{◌≡◌, refl, subst, inl, inr}
+use Rattle.session_model.specs.declared.settings.Settings.{Settings}
+use Rattle.mirror.specs.Cli.{HasFailed, WasTold}
+use Rattle.mirror.proofs.Choices.{same_settings}
+use Rattle.mirror.proofs.command.cli.Goals as goal
+
+pub returns-in_default-clause-ran : goal.returns-in_default-clause-ran
+returns-in_default-clause-ran g c settings spell = absurd (c.in_default.ensures settings spell)
+
+pub returns-in-Ok-clause-ran : goal.returns-in-Ok-clause-ran
+returns-in-Ok-clause-ran g c settings spell =
+    let same : c.in-Some.settings ≡ settings = same_settings _ _ _ c.in-Some.ensures spell in
+    inl (
+      refl,
+      subst (λ (s : Settings). WasTold s (g.S.Source.left c.args.input.now) (g.S.Source.left c.run_and_tell.new.input) (g.K.Sink.written c.args.out.now) (g.K.Sink.written c.run_and_tell.new.out)) same
+          c.in-Ok.ensures.ok,
+    )
+
+pub returns-in-Err-clause-ran : goal.returns-in-Err-clause-ran
+returns-in-Err-clause-ran g c settings spell =
+    let same : c.in-Some.settings ≡ settings = same_settings _ _ _ c.in-Some.ensures spell in
+    inr (
+      c.in-Err.fault,
+      (
+        c.status_of.ensures,
+        subst (λ (s : Settings). HasFailed s (g.S.Source.left c.args.input.now) (g.S.Source.left c.run_and_tell.new.input) (g.K.Sink.written c.args.out.now) (g.K.Sink.written c.run_and_tell.new.out) c.in-Err.fault) same
+            c.in-Err.ensures.failed,
+      ),
+    )
