@@ -152,14 +152,15 @@ fn first_readable<T: NetlinkDeserializable>(
     }
 }
 
-// Appends a message's bytes to a buffer that has room for them.
-fn write_behind<T: NetlinkSerializable>(msg: &NetlinkMessage<T>, buf: &mut BytesMut)
+// Appends a message's bytes, of which there are `len`, to a buffer that has room for them.
+fn write_behind<T: NetlinkSerializable>(msg: &NetlinkMessage<T>, len: usize, buf: &mut BytesMut)
     requires fits { message_fits T.text T.fitting msg.now ≡ true }
-    requires room { length (message_text T.text msg.now) ≤ buf.old.spare }
+    requires len { len ≡ length (message_text T.text msg.now) }
+    requires room { len ≤ buf.old.spare }
     ensures { buf.new.items ≡ buf.old.items ++ message_text T.text msg.now }
 {
     let at = buf.len();
-    buf.advance_mut(msg.buffer_len());
+    buf.advance_mut(len);
     msg.serialize(&mut buf.as_mut_slice()[at..]);
 }
 
@@ -203,8 +204,9 @@ impl NetlinkMessageCodec for NetlinkCodec {
         if !msg.fits() {
             return Err(CodecError::Unfit);
         }
-        buf.reserve(msg.buffer_len())?;
-        write_behind(&msg, buf);
+        let len = msg.buffer_len();
+        buf.reserve(len)?;
+        write_behind(&msg, len, buf);
         Ok(())
     }
 }
