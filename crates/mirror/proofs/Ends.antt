@@ -1,5 +1,5 @@
 -- How a run goes on and ends.
-use Rattle.std.proofs.Common.{◌≡◌, ◌+◌, ◌-◌, ◌<◌, ◌≤◌, inr, ℕ, List, [], ◌∷◌, ◌++◌, length, take, drop, Option, Some, None, IfSome, refl, sym, ◌∙◌, ap, subst, append_assoc, arith}
+use Rattle.std.proofs.Common.{◌≡◌, ◌+◌, ◌-◌, ◌*◌, ◌<◌, ◌≤◌, inr, ℕ, List, [], ◌∷◌, ◌++◌, length, take, drop, Option, Some, None, IfSome, refl, sym, ◌∙◌, ap, subst, append_assoc, arith}
 use Rattle.std.specs.Prelude.{vec_len}
 use Rattle.std.proofs.lemmas.List.{length-append, take-append-drop}
 use Rattle.session_model.specs.declared.settings.Settings.{Settings}
@@ -13,12 +13,11 @@ use Rattle.session_model.specs.Transcript.{lines_of}
 use Rattle.session_model.proofs.Places.{append-nil}
 use Rattle.mirror.specs.declared.progress.Progress.{Progress}
 use Rattle.mirror.specs.declared.runner.Runner.{Runner}
-use Rattle.mirror.specs.Built.{IsBuilt}
+use Rattle.mirror.specs.Format.{IsEntry, format}
 use Rattle.mirror.specs.Faults.{IsTaking, IsWriting}
 use Rattle.mirror.specs.Feeding.{Reached, Steady, Fed, HaltsBy, HaltedBy}
-use Rattle.mirror.specs.Format.{format}
-use Rattle.mirror.specs.Io.{with_front, with_back}
-use Rattle.mirror.specs.Outcome.{Gained, GainedSome, Running, Standing, EndsBy, Ended, WasRun}
+use Rattle.mirror.specs.Io.{Gained, GainedSome, with_back, with_front}
+use Rattle.mirror.specs.Outcome.{Running, Standing, EndsBy, Ended, WasRun}
 use Rattle.mirror.specs.Steps.{Tracks, Counted, AreAllTaken, text_of}
 
 pub front_none : (o : Option (List ℕ)) → o ≡ with_front [] o
@@ -106,9 +105,13 @@ running_gains s l0 l1 w0 w1 w2 p q h g runner line taken = record {
 pub steady_same : (p q : Progress) → Steady p → q.runner ≡ p.runner → q.line ≡ p.line → q.taken ≡ p.taken → Steady q
 steady_same p q h runner line taken = record {
   counted = subst Counted (sym runner) h.counted;
-  lines = subst (λ (r : Runner). r.lines ≤ q.taken) (sym runner) (subst (λ n. p.runner.lines ≤ n) (sym taken) h.lines);
-  line = subst (λ v. vec_len v ≤ q.taken) (sym line) (subst (λ n. vec_len p.line ≤ n) (sym taken) h.line);
+  lines = within (λ r. r.lines) h.lines;
+  messages = within (λ r. r.messages) h.messages;
+  dropped = within (λ r. r.dropped) h.dropped;
 }
+  where
+    within : (count : Runner → ℕ) → 2 * count p.runner + vec_len p.line ≤ p.taken → 2 * count q.runner + vec_len q.line ≤ q.taken
+    within count low = subst (λ r. 2 * count r + vec_len q.line ≤ q.taken) (sym runner) (subst (λ v. 2 * count p.runner + vec_len v ≤ q.taken) (sym line) (subst (λ n. 2 * count p.runner + vec_len p.line ≤ n) (sym taken) low))
 
 -- ---- standing still
 
@@ -168,14 +171,14 @@ ended_flushed s l0 l1 w0 w1 w2 x e h all = record {
 
 -- ---- faults
 
-caused : (s : Settings) (rs : List Record) (part after : List ℕ) (e : RunFault) → AreAllTaken s rs → Stops format s IsBuilt rs (part ++ after) e → HasCause format s IsBuilt ((lines_of rs ++ part) ++ after) rs e
+caused : (s : Settings) (rs : List Record) (part after : List ℕ) (e : RunFault) → AreAllTaken s rs → Stops format s IsEntry rs (part ++ after) e → HasCause format s IsEntry ((lines_of rs ++ part) ++ after) rs e
 caused s rs part after e taken stops = record { left = part ++ after; spelled = append_assoc (lines_of rs) part after; taken = taken; stops = stops }
 
 taking_ends : (s : Settings) (l1 : Option (List ℕ)) (rs : List Record) (part : List ℕ) (e : RunFault) → AreAllTaken s rs → IsTaking e → ((after : List ℕ) → HaltsBy s rs (part ++ after) e) → EndsBy s l1 rs part [] e
 taking_ends s l1 rs part (run.BadRecord at) taken h stops = (refl, λ after is. caused s rs part after (run.BadRecord at) taken (stops after))
-taking_ends s l1 rs part (run.Closed at) taken h stops = absurd h
+taking_ends s l1 rs part (run.Closed at) taken h stops = (refl, λ after is. caused s rs part after (run.Closed at) taken (stops after))
 taking_ends s l1 rs part (run.SequenceExhausted at) taken h stops = (refl, λ after is. caused s rs part after (run.SequenceExhausted at) taken (stops after))
-taking_ends s l1 rs part (run.Unfit at) taken h stops = absurd h
+taking_ends s l1 rs part (run.Unfit at) taken h stops = (refl, λ after is. caused s rs part after (run.Unfit at) taken (stops after))
 taking_ends s l1 rs part run.Limit taken h stops = (refl, λ after is. caused s rs part after run.Limit taken (stops after))
 taking_ends s l1 rs part run.ReadFault taken h stops = absurd h
 taking_ends s l1 rs part run.WriteFault taken h stops = absurd h
@@ -231,7 +234,7 @@ ended_unfinished s l0 l1 w0 w1 w2 p at h none all some a =
             let empty : p.line.items ++ after ≡ p.line.items = ap (λ z. p.line.items ++ z) (nothing_left l1 after none is) ∙ append-nil p.line.items in
             caused s k.records p.line.items after (run.BadRecord at) k.tracks.taken (
               at_line lines p.line.items h.bytes p.taken at k.spelled h.count a,
-              inr (subst (λ left. IsUnfinished format s IsBuilt k.records left) (sym empty) (record { some = some; part = k.part; within = within_limit lines p.line.items h.bytes p.taken s.limit k.spelled h.count h.limit })),
+              inr (subst (λ left. IsUnfinished format s IsEntry k.records left) (sym empty) (record { some = some; part = k.part; within = within_limit lines p.line.items h.bytes p.taken s.limit k.spelled h.count h.limit })),
             ),
       );
     }) all

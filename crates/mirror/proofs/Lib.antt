@@ -9,3 +9,4 @@ pub mod LineLaws
 pub mod Numerals
 pub mod Piece
 pub mod StepLaws
+pub mod RecordLaws

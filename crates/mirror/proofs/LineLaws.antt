@@ -1,26 +1,88 @@
 -- Which lines are no record that is taken.
-use Rattle.std.proofs.Common.{◌≡◌, List, [], ◌∷◌, ◌++◌, ℕ, sym, ◌∙◌, subst}
+use Rattle.std.proofs.Common.{◌≡◌, ◌+◌, ◌*◌, ◌≤◌, List, [], ◌∷◌, ◌++◌, ℕ, length, map, codes, flat_map, refl, sym, ◌∙◌, subst, arith}
+use Rattle.std.specs.Fmt.{decimal}
+use Rattle.std.proofs.lemmas.List.{length-append}
+use Rattle.std.specs.List.{AllByRecursion, join_with_byte}
+use Rattle.session_model.specs.declared.address.SocketAddr.{SocketAddr}
+use Rattle.session_model.specs.declared.transcript.BatchFrame.{BatchFrame}
 use Rattle.session_model.specs.declared.transcript.Record.{Record}
 use Rattle.session_model.specs.declared.transcript.Record.TheVariants.{Recv, Overrun, Close, Batch}
 use Rattle.session_model.specs.Causes.{IsNoRecord}
-use Rattle.session_model.specs.Transcript.{record_line}
+use Rattle.session_model.specs.Transcript.{AreBytes, IsWholeFrame, frame_word, record_line, record_words}
+use Rattle.session_model.specs.Lines.{hex_byte, hex_word}
 use Rattle.transcript_lines.specs.Line.{IsSpelled, IsNoLine, SpellingIsInjective}
-use Rattle.mirror.specs.Built.{IsBuilt}
+use Rattle.mirror.specs.Format.{IsEntry, IsFrameRead, format}
+use Rattle.mirror.specs.Steps.{weight}
 
--- A record that is taken is one that a line can spell.
-pub spelled : (r : Record) → IsBuilt r → IsSpelled r
-spelled (Recv source bytes) h = (h.0, h.1.each, h.2)
-spelled Overrun h = absurd h
-spelled Close h = absurd h
-spelled (Batch to []) h = absurd h
-spelled (Batch to (f ∷ [])) h = (h.0, (h.1.each, tt))
-spelled (Batch to (f ∷ g ∷ frames)) h = absurd h
+-- A record is one that a line can spell.
+pub spelled : (r : Record) → IsEntry r → IsSpelled r
+spelled (Recv source bytes) h = h
+spelled Overrun h = tt
+spelled Close h = tt
+spelled (Batch to frames) h = (h.0, frames_spelled frames h.1)
+  where
+    frames_spelled : (fs : List BatchFrame) → AllByRecursion (λ (f : BatchFrame). IsWholeFrame format f.bytes) fs → AllByRecursion (λ (f : BatchFrame). AreBytes f.bytes) fs
+    frames_spelled [] k = tt
+    frames_spelled (f ∷ fs) k = (k.0.each, frames_spelled fs k.1)
 
-pub no_line : (line : List ℕ) → IsNoLine line → IsNoRecord IsBuilt line
+-- Where each frame of what a line spells can be read, it is a record.
+pub is_entry : (to : SocketAddr) (frames : List BatchFrame) → IsSpelled (Batch to frames) → AllByRecursion (λ (f : BatchFrame). IsFrameRead f.bytes) frames → IsEntry (Batch to frames)
+is_entry to frames h k = (h.0, all frames h.1 k)
+  where
+    all : (fs : List BatchFrame) → AllByRecursion (λ (f : BatchFrame). AreBytes f.bytes) fs → AllByRecursion (λ (f : BatchFrame). IsFrameRead f.bytes) fs → AllByRecursion (λ (f : BatchFrame). IsWholeFrame format f.bytes) fs
+    all [] a b = tt
+    all (f ∷ fs) a b = (record { each = a.0; frame = b.0.frame; readable = b.0.readable }, all fs a.1 b.1)
+
+pub entry_read : (to : SocketAddr) (frames : List BatchFrame) → IsEntry (Batch to frames) → AllByRecursion (λ (f : BatchFrame). IsFrameRead f.bytes) frames
+entry_read to frames h = all frames h.1
+  where
+    all : (fs : List BatchFrame) → AllByRecursion (λ (f : BatchFrame). IsWholeFrame format f.bytes) fs → AllByRecursion (λ (f : BatchFrame). IsFrameRead f.bytes) fs
+    all [] k = tt
+    all (f ∷ fs) k = (record { frame = k.0.frame; readable = k.0.readable }, all fs k.1)
+
+pub no_line : (line : List ℕ) → IsNoLine line → IsNoRecord IsEntry line
 no_line line none r h e = none r (spelled r h) e
 
 -- The line of another record.
-pub not_built : SpellingIsInjective → (line : List ℕ) (entry : Record) → IsSpelled entry → line ++ 10 ∷ [] ≡ record_line entry → (IsBuilt entry → ⊥) → IsNoRecord IsBuilt line
+pub not_built : SpellingIsInjective → (line : List ℕ) (entry : Record) → IsSpelled entry → line ++ 10 ∷ [] ≡ record_line entry → (IsEntry entry → ⊥) → IsNoRecord IsEntry line
 not_built one line entry h is not r built e =
     let same : r ≡ entry = one r entry (spelled r built) h (sym e ∙ is) in
-    not (subst IsBuilt same built)
+    not (subst IsEntry same built)
+
+-- ---- how long a line is
+
+tail_shorter : (x : List ℕ) (xs : List (List ℕ)) → length (join_with_byte 32 xs) ≤ length (join_with_byte 32 (x ∷ xs))
+tail_shorter x [] = omega arith
+tail_shorter x (y ∷ ys) =
+    let n : length (x ++ (32 ∷ join_with_byte 32 (y ∷ ys))) ≡ length x + length (32 ∷ join_with_byte 32 (y ∷ ys)) = length-append x (32 ∷ join_with_byte 32 (y ∷ ys)) in
+    omega (arith, n)
+
+head_shorter : (x y : List ℕ) (ys : List (List ℕ)) → length x ≤ length (join_with_byte 32 (x ∷ y ∷ ys))
+head_shorter x y ys =
+    let n : length (x ++ (32 ∷ join_with_byte 32 (y ∷ ys))) ≡ length x + length (32 ∷ join_with_byte 32 (y ∷ ys)) = length-append x (32 ∷ join_with_byte 32 (y ∷ ys)) in
+    omega (arith, n)
+
+twice : (bytes : List ℕ) → length (flat_map hex_byte bytes) ≡ 2 * length bytes
+twice [] = refl
+twice (b ∷ bytes) = let n = twice bytes in omega (arith, n)
+
+hex_long : (bytes : List ℕ) → 2 * length bytes ≤ length (hex_word bytes)
+hex_long [] = omega arith
+hex_long (b ∷ bytes) = omega (arith, twice (b ∷ bytes))
+
+-- A line has at least two bytes, and two for each message and each drop that its record can bring.
+pub line_long : (r : Record) → (2 ≤ length (record_line r)) × (2 * weight r ≤ length (record_line r))
+line_long (Recv source bytes) =
+    let w = decimal source.groups ∷ hex_word bytes ∷ [] in
+    let whole : length (record_line (Recv source bytes)) ≡ length (join_with_byte 32 (record_words (Recv source bytes))) + 1 = length-append (join_with_byte 32 (record_words (Recv source bytes))) (10 ∷ []) in
+    let name : 4 ≤ length (join_with_byte 32 (record_words (Recv source bytes))) = head_shorter (codes "recv") (decimal source.port) w in
+    let a = tail_shorter (codes "recv") (decimal source.port ∷ w) in
+    let b = tail_shorter (decimal source.port) w in
+    let c = tail_shorter (decimal source.groups) (hex_word bytes ∷ []) in
+    (omega (arith, whole, name), omega (arith, whole, a, b, c, hex_long bytes))
+line_long Overrun = let n : length (record_line Overrun) ≡ 8 = refl in (omega (arith, n), omega (arith, n))
+line_long Close = let n : length (record_line Close) ≡ 6 = refl in (omega (arith, n), omega (arith, n))
+line_long (Batch to frames) =
+    let whole : length (record_line (Batch to frames)) ≡ length (join_with_byte 32 (record_words (Batch to frames))) + 1 = length-append (join_with_byte 32 (record_words (Batch to frames))) (10 ∷ []) in
+    let name : 5 ≤ length (join_with_byte 32 (record_words (Batch to frames))) = head_shorter (codes "batch") (decimal to.port) (decimal to.groups ∷ map frame_word frames) in
+    (omega (arith, whole, name), omega (arith, whole))

@@ -1,275 +1,48 @@
--- What one more record does to a runner's session, and why it isn't taken.
-use Rattle.std.proofs.Common.{◌≡◌, ◌≢◌, ◌+◌, ◌<◌, ◌≤◌, ◌&&◌, ◌^◌, ℕ, Bool, true, false, not, cond, nat_lt, List, [], ◌∷◌, ◌++◌, length, get_or, Option, Some, None, Result, Ok, Err, refl, sym, ◌∙◌, ap, subst, arith}
-use Rattle.std.specs.Prelude.{IsOk}
-use Rattle.std.specs.List.{AllByRecursion, list_all}
-use Rattle.std.proofs.lemmas.List.{length-append}
-use Rattle.std.proofs.lemmas.Grind.{flat_map-append}
-use Rattle.std.proofs.lemmas.Bool.Decides.{nat_tests}
-use Rattle.nl_core.specs.Frames.{frame_at, message_fits}
-use Rattle.nl_core.proofs.Fits.{whole_fits}
-use Rattle.nl_core.specs.Reading.{Fails}
+-- What one more record does to a runner, and why it isn't taken.
+use Rattle.std.proofs.Common.{◌≡◌, ◌+◌, ◌<◌, ◌⊎◌, inl, inr, ℕ, suc, Bool, true, false, cond, List, [], ◌∷◌, ◌++◌, length, Option, Some, None, Result, Ok, Err, refl, sym, ◌∙◌, ap, subst, append_assoc, arith}
+use Rattle.nl_core.specs.Frames.{frame_at, header_at}
 use Rattle.nl_core.specs.declared.error.DecodeError.{DecodeError}
-use Rattle.nl_core.specs.declared.error.DecodeError.TheVariants as decode
 use Rattle.nl_core.specs.declared.message.NetlinkMessage.{NetlinkMessage}
-use Rattle.session_model.specs.declared.awaited.Awaited.{Awaited}
 use Rattle.session_model.specs.declared.address.SocketAddr.{SocketAddr}
 use Rattle.session_model.specs.declared.settings.Settings.{Settings}
-use Rattle.session_model.specs.declared.transcript.BatchFrame.{BatchFrame}
-use Rattle.session_model.specs.declared.transcript.Mark.TheVariants.{Expected}
 use Rattle.session_model.specs.declared.transcript.Record.{Record}
-use Rattle.session_model.specs.declared.transcript.Record.TheVariants.{Recv, Overrun, Close, Batch}
-use Rattle.session_model.specs.Events.{Event, Sent, Came, Arrival, arrivals, record_events, asked_message}
-use Rattle.session_model.specs.Awaited.{batch_count, last_number}
-use Rattle.session_model.specs.SessionText.{text_of_events}
-use Rattle.session_model.specs.Causes.{refusal, read_fits, AfterClose, OutOfNumbers, TooLong}
-use Rattle.session_model.specs.Reported.{drops, dropped_count, report_of}
-use Rattle.session_model.specs.Transcript.{IsWholeFrame}
-use Rattle.session_model.proofs.Places.{append-nil, batch_count-append}
-use Rattle.session_model.proofs.Arrived.{one_datagram}
-use Rattle.session_model.proofs.Distinct.{OneEach}
-use Rattle.session_model.proofs.Sent.{all_append, unshut}
-use Rattle.session_model.proofs.Open.{open_as_awaited}
-use Rattle.session_model.proofs.Taking.{taken_more}
-use Rattle.proto_core.specs.Session.{Session, arrived_at, replied, awaiting, requested}
-use Rattle.proto_core.specs.declared.request.Request.{Request}
-use Rattle.proto_core.specs.declared.request.ExpectResponse.TheVariants.{Explicit}
-use Rattle.session_steps.specs.After.{session_after, TakesIncoming, TakesResponse, TakesOutgoing}
-use Rattle.session_steps.proofs.Steps.{received, sent, asked_of, request_one}
+use Rattle.session_model.specs.Cut.{begins, behind}
+use Rattle.session_model.specs.Events.{Event, Sent, Came, Unread, Leftover, Overran, Shut, Other, Arrival, brought, datagram_events, leftover, overrun_arrival}
+use Rattle.session_model.specs.Reported.{drops, dropped_count}
+use Rattle.session_model.proofs.Cuts.{shorter}
+use Rattle.session_model.proofs.Places.{append-nil}
+use Rattle.proto_core.specs.Session.{Session, arrived_at, replied, awaiting}
+use Rattle.proto_core.specs.Codec.{front, told, rest_told, without_front}
+use Rattle.proto_core.specs.declared.codec.Decoded.{Decoded}
+use Rattle.proto_core.specs.declared.codec.Decoded.TheVariants as decoded
+use Rattle.session_steps.specs.After.{TakesIncoming, TakesResponse}
+use Rattle.session_steps.specs.Stage.{Brings, Stage}
+use Rattle.session_steps.proofs.Received.{came, overran, unread}
+use Rattle.session_steps.proofs.Received.{leftover as leftover_brings}
+use Rattle.session_steps.proofs.Stages.{passed, received}
+use Rattle.session_steps.proofs.Datagrams.{last_event, next_event}
+use Rattle.mirror.specs.declared.answer.Answer.{Answer}
 use Rattle.mirror.specs.declared.runner.Runner.{Runner}
-use Rattle.mirror.specs.Built.{IsBuilt}
 use Rattle.mirror.specs.Format.{Message, format}
-use Rattle.mirror.specs.Steps.{events, text_behind, batch_of, Stepping, Tracks}
+use Rattle.mirror.specs.Steps.{Advances, Amid, Keeps, closes, events, open_at}
 
-pub readable : (r : Result (NetlinkMessage Message) DecodeError) → IsOk r → (m : NetlinkMessage Message) × (r ≡ Ok m)
-readable (Ok m) h = (m, refl)
-readable (Err e) h = cc
-
--- A frame that can be read is refused for want of memory alone.
-pub only_memory : (e : DecodeError) (r : Result (NetlinkMessage Message) DecodeError) → IsOk r → Fails e r → e ≢ decode.NoMemory → ⊥
-only_memory decode.NoMemory r h f other = other refl
-only_memory (decode.TooSmall have need) (Ok m) h f other = cc
-only_memory (decode.TooSmall have need) (Err e) h f other = cc
-only_memory decode.BadLength (Ok m) h f other = cc
-only_memory decode.BadLength (Err e) h f other = cc
-
-pub events_more : (rs : List Record) (r : Record) → events (rs ++ r ∷ []) ≡ events rs ++ record_events format r
-events_more rs r = flat_map-append (record_events format) rs (r ∷ []) ∙ ap (λ es. events rs ++ es) (append-nil (record_events format r))
-
-recv_events : (source : SocketAddr) (bytes : List ℕ) (m : NetlinkMessage Message) → IsWholeFrame format bytes → frame_at format.reads bytes ≡ Ok m
-    → record_events format (Recv source bytes) ≡ Came m source ∷ []
-recv_events source bytes m h e = one_datagram format source bytes m h.frame e
-
-batch_events : (s : Settings) (es : List (Event Message)) (to : SocketAddr) (bytes : List ℕ) (m : NetlinkMessage Message) → frame_at format.reads bytes ≡ Ok m
-    → record_events format (batch_of to bytes) ≡ Sent to (asked_of format s es m to ∷ []) ∷ []
-batch_events s es to bytes m e = ap (λ r. Sent to (asked_message format Expected r ++ []) ∷ []) e
-
--- A batch that is taken is a batch of one awaited frame.
-pub built_batch : (to : SocketAddr) (frame : BatchFrame) → IsBuilt (Batch to (frame ∷ [])) → Batch to (frame ∷ []) ≡ batch_of to frame.bytes
-built_batch to frame h = ap (λ k. Batch to (record { mark = k; bytes = frame.bytes } ∷ [])) h.2
-
-one_each : (s : Settings) (r : Record) → IsBuilt r → AllByRecursion OneEach (record_events format r)
-one_each s (Recv source bytes) h =
-    let m = readable (frame_at format.reads bytes) h.1.readable in
-    subst (AllByRecursion OneEach) (sym (recv_events source bytes m.0 h.1 m.1)) (tt, tt)
-one_each s (Batch to []) h = absurd h
-one_each s (Batch to (f ∷ [])) h =
-    let m = readable (frame_at format.reads f.bytes) h.1.readable in
-    subst (λ r. AllByRecursion OneEach (record_events format r)) (sym (built_batch to f h))
-    (subst (AllByRecursion OneEach) (sym (batch_events s [] to f.bytes m.0 m.1)) (refl, tt))
-one_each s (Batch to (f ∷ g ∷ frames)) h = absurd h
-one_each s Overrun h = absurd h
-one_each s Close h = absurd h
-
-pub all_one_each : (s : Settings) (rs : List Record) → AllByRecursion IsBuilt rs → AllByRecursion OneEach (events rs)
-all_one_each s [] h = tt
-all_one_each s (r ∷ rs) h = all_append OneEach (record_events format r) (events rs) (one_each s r h.0) (all_one_each s rs h.1)
-
--- A datagram of one frame.
-pub recv_step : (s q : Settings) (rs : List Record) (source : SocketAddr) (bytes : List ℕ) (m : NetlinkMessage Message) (s0 s1 s2 s3 : Session Message ℕ) (t0 t1 t2 : List ℕ)
-    → AllByRecursion IsBuilt rs → IsWholeFrame format bytes → frame_at format.reads bytes ≡ Ok m → s0 ≡ session_after s.start (events rs)
-    → s1 ≡ arrived_at (record { message = m; source = source }) s0 → TakesIncoming format s1 s2 t0 t1 → q ≡ s → TakesResponse format q s2 s3 t1 t2
-    → (s3 ≡ session_after s.start (events rs ++ record_events format (Recv source bytes))) × (t2 ≡ t0 ++ text_behind s rs (Recv source bytes))
-recv_step s q rs source bytes m s0 s1 s2 s3 t0 t1 t2 each whole e is0 is1 first same second =
-    subst (λ es. (s3 ≡ session_after s.start (events rs ++ es)) × (t2 ≡ t0 ++ text_of_events format s (events rs) es)) (sym (recv_events source bytes m whole e))
-    (received format s (events rs) m source s0 s1 s2 s3 t0 t1 t2 (all_one_each s rs each) is0 is1 first (subst (λ z. TakesResponse format z s2 s3 t1 t2) same second))
-
--- A batch of one awaited frame.
-pub batch_step : (s : Settings) (rs : List Record) (to : SocketAddr) (bytes : List ℕ) (m : NetlinkMessage Message) (streams : ℕ) (request : Request Message ℕ) (s0 s1 s2 : Session Message ℕ) (t0 t1 : List ℕ)
-    → AllByRecursion IsBuilt rs → frame_at format.reads bytes ≡ Ok m → s0 ≡ session_after s.start (events rs) → streams ≡ batch_count 0 (events rs)
-    → list_all (message_fits format.text format.fits) request.messages ≡ true
-    → request ≡ record { metadata = streams + 1; messages = m ∷ []; destination = to; expect_response = Explicit (true ∷ []) }
-    → s1 ≡ requested format.kind format.text s0 request → TakesOutgoing format s1 s2 t0 t1
-    → (s2 ≡ session_after s.start (events rs ++ record_events format (batch_of to bytes))) × (t1 ≡ t0 ++ text_behind s rs (batch_of to bytes))
-batch_step s rs to bytes m streams request s0 s1 s2 t0 t1 each e is0 count fits asks is1 takes =
-    let same : request ≡ request_one format s (events rs) m to =
-    asks ∙ ap (λ n. record { metadata = n + 1; messages = m ∷ []; destination = to; expect_response = Explicit (true ∷ []) }) count in
-    let fit : (message_fits format.text format.fits m && true) ≡ true = sym (ap (λ (r : Request Message ℕ). list_all (message_fits format.text format.fits) r.messages) asks) ∙ fits in
-    subst (λ es. (s2 ≡ session_after s.start (events rs ++ es)) × (t1 ≡ t0 ++ text_of_events format s (events rs) es)) (sym (batch_events s (events rs) to bytes m e))
-    (sent format s (events rs) m to s0 s1 s2 t0 t1 (all_one_each s rs each) is0 (and-true (message_fits format.text format.fits m) fit) (is1 ∙ ap (requested format.kind format.text s0) same) takes)
-  where
-    and-true : (b : Bool) → (b && true) ≡ true → b ≡ true
-    and-true true h = refl
-    and-true false h = h
+-- ---- one message more
 
 pub arrived_counts : (a : Arrival Message) (s : Session Message ℕ) → (arrived_at a s).arrived ≡ s.arrived + 1
 arrived_counts a s = one (awaiting a s)
   where
-    one : (o : Option (Awaited ℕ)) → (replied a s o).arrived ≡ s.arrived + 1
+    one : (o : Option _) → (replied a s o).arrived ≡ s.arrived + 1
     one None = refl
     one (Some w) = refl
 
 pub arrived_last : (a : Arrival Message) (s : Session Message ℕ) → (arrived_at a s).last ≡ s.last
 arrived_last a s = one (awaiting a s)
   where
-    one : (o : Option (Awaited ℕ)) → (replied a s o).last ≡ s.last
+    one : (o : Option _) → (replied a s o).last ≡ s.last
     one None = refl
     one (Some w) = refl
 
--- ---- one more record
-
-recv_free : (s : Settings) (rs : List Record) (source : SocketAddr) (bytes : List ℕ) (last : ℕ) → AllByRecursion IsBuilt rs → last < 2 ^ 32 → last_number s.start (events rs) ≡ last
-    → refusal format s (events rs) (Recv source bytes) ≡ None
-recv_free s rs source bytes last each low is =
-    let t : nat_lt 4294967295 (last + 0) ≡ false = grind (arith, nat_tests) in
-    ap (λ b. cond b (Some AfterClose) (cond (nat_lt 4294967295 (last_number s.start (events rs) + 0)) (Some OutOfNumbers) None)) (unshut (events rs) (all_one_each s rs each))
-    ∙ ap (λ n. cond (nat_lt 4294967295 (n + 0)) (Some OutOfNumbers) None) is
-    ∙ ap (λ b. cond b (Some OutOfNumbers) None) t
-
-fits_read : (bytes : List ℕ) (m : NetlinkMessage Message) → frame_at format.reads bytes ≡ Ok m → (b : Bool) → message_fits format.text format.fits m ≡ b → read_fits format (frame_at format.reads bytes) ≡ b
-fits_read bytes m e b h = ap (read_fits format) e ∙ h
-
--- What a batch of one frame is refused for, by the tests of its number and of its frame.
-pub batch_refusal : (s : Settings) (rs : List Record) (to : SocketAddr) (bytes : List ℕ) (m : NetlinkMessage Message) (over fits : Bool) → AllByRecursion IsBuilt rs
-    → frame_at format.reads bytes ≡ Ok m → nat_lt 4294967295 (last_number s.start (events rs) + 1) ≡ over → message_fits format.text format.fits m ≡ fits
-    → refusal format s (events rs) (batch_of to bytes) ≡ cond over (Some OutOfNumbers) (cond (not (fits && true)) (Some TooLong) None)
-batch_refusal s rs to bytes m over fits each e o h =
-    ap (λ b. cond b (Some AfterClose) (cond (nat_lt 4294967295 (last_number s.start (events rs) + 1)) (Some OutOfNumbers) (cond (not (read_fits format (frame_at format.reads bytes) && true)) (Some TooLong) None))) (unshut (events rs) (all_one_each s rs each))
-    ∙ ap (λ b. cond b (Some OutOfNumbers) (cond (not (read_fits format (frame_at format.reads bytes) && true)) (Some TooLong) None)) o
-    ∙ ap (λ b. cond over (Some OutOfNumbers) (cond (not (b && true)) (Some TooLong) None)) (fits_read bytes m e fits h)
-
--- What a request of one message tells of its batch.
-tests_over : (last n : ℕ) (b : Bool) → last ≡ n → nat_lt 4294967295 (n + 1) ≡ b → nat_lt 4294967295 (last + 1) ≡ b
-tests_over last n b e h = ap (λ k. nat_lt 4294967295 (k + 1)) e ∙ h
-
-first_fits : (m : NetlinkMessage Message) (ms : List (NetlinkMessage Message)) → ms ≡ m ∷ [] → list_all (message_fits format.text format.fits) ms ≡ true → message_fits format.text format.fits m ≡ true
-first_fits m ms is h = and-true (message_fits format.text format.fits m) (sym (ap (list_all (message_fits format.text format.fits)) is) ∙ h)
-  where
-    and-true : (b : Bool) → (b && true) ≡ true → b ≡ true
-    and-true true k = refl
-    and-true false k = k
-
-pub batch_free : (s : Settings) (rs : List Record) (to : SocketAddr) (bytes : List ℕ) (m : NetlinkMessage Message) (request : Request Message ℕ) (session : Session Message ℕ) (metadata : ℕ) → AllByRecursion IsBuilt rs
-    → frame_at format.reads bytes ≡ Ok m → request ≡ record { metadata = metadata; messages = m ∷ []; destination = to; expect_response = Explicit (true ∷ []) } → session ≡ session_after s.start (events rs)
-    → session.last + length request.messages < 2 ^ 32 → list_all (message_fits format.text format.fits) request.messages ≡ true
-    → refusal format s (events rs) (batch_of to bytes) ≡ None
-batch_free s rs to bytes m request session metadata each e asks is low fits =
-    let one : length request.messages ≡ 1 = ap (λ (r : Request Message ℕ). length r.messages) asks in
-    let under : nat_lt 4294967295 (session.last + 1) ≡ false = (let l : session.last + 1 < 2 ^ 32 = omega (arith, low, one) in grind (arith, nat_tests, l)) in
-    batch_refusal s rs to bytes m false true each e (tests_over (last_number s.start (events rs)) session.last false (sym (ap (λ q. q.last) is)) under)
-    (first_fits m request.messages (ap (λ (r : Request Message ℕ). r.messages) asks) fits)
-
-pub batch_exhausted : (s : Settings) (rs : List Record) (to : SocketAddr) (bytes : List ℕ) (m : NetlinkMessage Message) (request : Request Message ℕ) (session : Session Message ℕ) (metadata : ℕ) → AllByRecursion IsBuilt rs
-    → frame_at format.reads bytes ≡ Ok m → request ≡ record { metadata = metadata; messages = m ∷ []; destination = to; expect_response = Explicit (true ∷ []) } → session ≡ session_after s.start (events rs)
-    → 2 ^ 32 ≤ session.last + length request.messages
-    → refusal format s (events rs) (batch_of to bytes) ≡ Some OutOfNumbers
-batch_exhausted s rs to bytes m request session metadata each e asks is high =
-    let one : length request.messages ≡ 1 = ap (λ (r : Request Message ℕ). length r.messages) asks in
-    let over : nat_lt 4294967295 (session.last + 1) ≡ true = (let l : 2 ^ 32 ≤ session.last + 1 = omega (arith, high, one) in grind (arith, nat_tests, l)) in
-    batch_refusal s rs to bytes m true (message_fits format.text format.fits m) each e (tests_over (last_number s.start (events rs)) session.last true (sym (ap (λ q. q.last) is)) over) refl
-
--- A whole frame that is read fits, so a request of it alone is never unfit.
-pub never_unfit : (bytes : List ℕ) (m : NetlinkMessage Message) (request : Request Message ℕ) (metadata index : ℕ) (to : SocketAddr) → IsWholeFrame format bytes → frame_at format.reads bytes ≡ Ok m
-    → request ≡ record { metadata = metadata; messages = m ∷ []; destination = to; expect_response = Explicit (true ∷ []) }
-    → index < length request.messages → ((d : NetlinkMessage Message) → message_fits format.text format.fits (get_or request.messages index d) ≡ false) → ⊥
-never_unfit bytes m request metadata index to whole e asks low unfit =
-    let is : request.messages ≡ m ∷ [] = ap (λ (r : Request Message ℕ). r.messages) asks in
-    let one : index < length (m ∷ []) = subst (λ ms. index < length ms) is low in
-    let first : index ≡ 0 = omega (arith, one) in
-    let no : message_fits format.text format.fits m ≡ false =
-    ap (λ ms. message_fits format.text format.fits (get_or ms 0 m)) (sym is) ∙ ap (λ i. message_fits format.text format.fits (get_or request.messages i m)) (sym first) ∙ unfit m in
-    let fits : message_fits format.text format.fits m ≡ true = whole_fits bytes m whole.frame whole.each e in
-    let both : true ≡ false = sym fits ∙ no in cc
-
-stepping_more : (s : Settings) (rs : List Record) (r : Record) (old new : Runner) → Stepping s rs old → IsBuilt r → new.settings ≡ old.settings
-    → new.session.session ≡ session_after s.start (events rs ++ record_events format r) → new.streams ≡ batch_count 0 (events rs ++ record_events format r)
-    → Stepping s (rs ++ r ∷ []) new
-stepping_more s rs r old new h built same session streams = record {
-  settings = same ∙ h.settings;
-  session = session ∙ ap (session_after s.start) (sym (events_more rs r));
-  streams = streams ∙ ap (batch_count 0) (sym (events_more rs r));
-  each = all_append IsBuilt rs (r ∷ []) h.each (built, tt);
-}
-
-tracks_more : (s : Settings) (rs : List Record) (r : Record) (old new : Runner) → Tracks s rs old → IsBuilt r → refusal format s (events rs) r ≡ None → new.settings ≡ old.settings
-    → new.session.session ≡ session_after s.start (events rs ++ record_events format r) → new.streams ≡ batch_count 0 (events rs ++ record_events format r)
-    → new.lines ≡ old.lines + 1 → new.messages ≡ new.session.session.arrived → Tracks s (rs ++ r ∷ []) new
-tracks_more s rs r old new h built free same session streams lines messages =
-    let stands = stepping_more s rs r old new h.stands built same session streams in
-    record {
-      stands = stands;
-      lines = lines ∙ ap (λ n. n + 1) h.lines ∙ sym (length-append rs (r ∷ []));
-      messages = messages ∙ ap (λ q. q.arrived) stands.session;
-      taken = taken_more format s IsBuilt [] rs r h.taken built free;
-    }
-
-plus0 : (n : ℕ) → n + 0 ≡ n
-plus0 n = omega arith
-
-pub tracks_recv : (s : Settings) (rs : List Record) (source : SocketAddr) (bytes : List ℕ) (entry : Record) (old new : Runner) (t0 t1 : List ℕ) → Tracks s rs old → IsBuilt entry → entry ≡ Recv source bytes
-    → new.settings ≡ old.settings → new.streams ≡ old.streams → new.lines ≡ old.lines + 1 → new.session.session.arrived ≡ new.messages → old.session.session.last < 2 ^ 32
-    → ((new.session.session ≡ session_after s.start (events rs ++ record_events format (Recv source bytes))) × (t1 ≡ t0 ++ text_behind s rs (Recv source bytes)))
-    → Tracks s (rs ++ entry ∷ []) new × (t1 ≡ t0 ++ text_behind s rs entry)
-tracks_recv s rs source bytes entry old new t0 t1 h built is same streams lines arrived low step =
-    let it : IsBuilt (Recv source bytes) = subst IsBuilt is built in
-    let m = readable (frame_at format.reads bytes) it.1.readable in
-    let count : batch_count 0 (events rs ++ record_events format (Recv source bytes)) ≡ batch_count 0 (events rs) =
-    ap (λ es. batch_count 0 (events rs ++ es)) (recv_events source bytes m.0 it.1 m.1) ∙ batch_count-append 0 (events rs) (Came m.0 source ∷ []) ∙ plus0 (batch_count 0 (events rs)) in
-    let free = recv_free s rs source bytes old.session.session.last h.stands.each low (sym (ap (λ q. q.last) h.stands.session)) in
-    subst (λ r. Tracks s (rs ++ r ∷ []) new × (t1 ≡ t0 ++ text_behind s rs r)) (sym is)
-    (tracks_more s rs (Recv source bytes) old new h it free same step.0 (streams ∙ h.stands.streams ∙ sym count) lines (sym arrived), step.1)
-
-pub tracks_batch : (s : Settings) (rs : List Record) (to : SocketAddr) (bytes : List ℕ) (entry : Record) (old new : Runner) (t0 t1 : List ℕ) → Tracks s rs old → IsBuilt entry → entry ≡ batch_of to bytes
-    → refusal format s (events rs) (batch_of to bytes) ≡ None
-    → new.settings ≡ old.settings → new.streams ≡ old.streams + 1 → new.lines ≡ old.lines + 1 → new.session.session.arrived ≡ new.messages
-    → ((new.session.session ≡ session_after s.start (events rs ++ record_events format (batch_of to bytes))) × (t1 ≡ t0 ++ text_behind s rs (batch_of to bytes)))
-    → Tracks s (rs ++ entry ∷ []) new × (t1 ≡ t0 ++ text_behind s rs entry)
-tracks_batch s rs to bytes entry old new t0 t1 h built is free same streams lines arrived step =
-    let count : batch_count 0 (events rs ++ record_events format (batch_of to bytes)) ≡ batch_count 0 (events rs) + 1 =
-    batch_count-append 0 (events rs) (record_events format (batch_of to bytes)) in
-    subst (λ r. Tracks s (rs ++ r ∷ []) new × (t1 ≡ t0 ++ text_behind s rs r)) (sym is)
-    (tracks_more s rs (batch_of to bytes) old new h (subst IsBuilt is built) free same step.0 (streams ∙ ap (λ n. n + 1) h.stands.streams ∙ sym count) lines (sym arrived), step.1)
-
--- ---- taking a record apart
-
-pub stepping_lined : (s : Settings) (rs : List Record) (runner : Runner) (n : ℕ) → Stepping s rs runner → Stepping s rs (record runner { lines = n })
-stepping_lined s rs runner n h = record { settings = h.settings; session = h.session; streams = h.streams; each = h.each }
-
-pub one_of : (xs : List BatchFrame) (x : BatchFrame) → 1 ≤ length xs → length xs < 2 → x ≡ get_or xs 0 x → xs ≡ x ∷ []
-one_of [] x low high is = absurd (omega (arith, low))
-one_of (y ∷ []) x low high is = ap (λ z. z ∷ []) (sym is)
-one_of (y ∷ z ∷ xs) x low high is = absurd (omega (arith, high))
-
-pub one_batch : (entry : Record) (to : SocketAddr) (frames : List BatchFrame) (frame : BatchFrame) → entry ≡ Batch to frames → frames ≡ frame ∷ [] → IsBuilt entry → entry ≡ batch_of to frame.bytes
-one_batch entry to frames frame is one built =
-    let whole : entry ≡ Batch to (frame ∷ []) = is ∙ ap (Batch to) one in
-    whole ∙ built_batch to frame (subst IsBuilt whole built)
-
-pub one_frame : (entry : Record) (to : SocketAddr) (frames : List BatchFrame) → entry ≡ Batch to frames → IsBuilt entry → length frames ≡ 1
-one_frame entry to [] is built = absurd (subst IsBuilt is built)
-one_frame entry to (x ∷ []) is built = refl
-one_frame entry to (x ∷ y ∷ frames) is built = absurd (subst IsBuilt is built)
-
--- ---- the report
-
-drops_nothing : (r : Record) → IsBuilt r → dropped_count (record_events format r) ≡ 0
-drops_nothing (Recv source bytes) h =
-    let m = readable (frame_at format.reads bytes) h.1.readable in
-    ap dropped_count (recv_events source bytes m.0 h.1 m.1)
-drops_nothing (Batch to frames) h = refl
-drops_nothing Overrun h = absurd h
-drops_nothing Close h = absurd h
-
-dropped-append : (es fs : List (Event Message)) → dropped_count (es ++ fs) ≡ dropped_count es + dropped_count fs
+pub dropped-append : (es fs : List (Event Message)) → dropped_count (es ++ fs) ≡ dropped_count es + dropped_count fs
 dropped-append [] fs = sym (zero-plus (dropped_count fs))
   where
     zero-plus : (n : ℕ) → 0 + n ≡ n
@@ -279,17 +52,217 @@ dropped-append (e ∷ es) fs = ap (λ n. drops e + n) (dropped-append es fs) ∙
     assoc : (a b c : ℕ) → a + (b + c) ≡ (a + b) + c
     assoc a b c = omega arith
 
-all_drop_nothing : (rs : List Record) → AllByRecursion IsBuilt rs → dropped_count (events rs) ≡ 0
-all_drop_nothing [] h = refl
-all_drop_nothing (r ∷ rs) h =
-    dropped-append (record_events format r) (events rs) ∙ ap (λ n. n + dropped_count (events rs)) (drops_nothing r h.0) ∙ ap (λ n. 0 + n) (all_drop_nothing rs h.1)
+dropped_more : (before es : List (Event Message)) (e : Event Message) → dropped_count (before ++ (es ++ e ∷ [])) ≡ dropped_count (before ++ es) + drops e
+dropped_more before es e = ap dropped_count (sym (append_assoc before es (e ∷ []))) ∙ dropped-append (before ++ es) (e ∷ []) ∙ ap (λ n. dropped_count (before ++ es) + n) (plus0 (drops e))
+  where
+    plus0 : (n : ℕ) → n + 0 ≡ n
+    plus0 n = omega arith
 
-pub reported : (s : Settings) (rs : List Record) (runner : Runner) (lines messages pending : ℕ) → Tracks s rs runner → lines ≡ runner.lines → messages ≡ runner.messages
-    → pending ≡ length runner.session.session.awaited
-    → record { lines = lines; messages = messages; dropped = 0; still_open = pending; in_step = false } ≡ report_of format s rs
-reported s rs runner lines messages pending h l m p =
-    ap (λ n. record { lines = n; messages = messages; dropped = 0; still_open = pending; in_step = false }) (l ∙ h.lines)
-    ∙ ap (λ n. record { lines = length rs; messages = n; dropped = 0; still_open = pending; in_step = false }) (m ∙ h.messages)
-    ∙ ap (λ n. record { lines = length rs; messages = length (arrivals (events rs)); dropped = n; still_open = pending; in_step = false }) (sym (all_drop_nothing rs h.stands.each))
-    ∙ ap (λ n. record { lines = length rs; messages = length (arrivals (events rs)); dropped = dropped_count (events rs); still_open = n; in_step = false })
-    (p ∙ ap (λ q. length q.awaited) h.stands.session ∙ sym (open_as_awaited s.start (events rs) (all_one_each s rs h.stands.each)))
+-- an event that brings a message drops nothing
+brings_no_drop : (e : Event Message) (a : Arrival Message) → Brings e (a ∷ []) → drops e ≡ 0
+brings_no_drop (Came m source) a h = refl
+brings_no_drop Overran a h = refl
+brings_no_drop (Unread kind number source) a h = let none : [] ≡ a ∷ [] = h.arrivals in cc
+brings_no_drop (Leftover count source) a h = let none : [] ≡ a ∷ [] = h.arrivals in cc
+brings_no_drop Shut a h = let none : [] ≡ a ∷ [] = h.arrivals in cc
+brings_no_drop (Sent to frames) a h = let none : [] ≡ a ∷ [] = h.arrivals in cc
+brings_no_drop (Other aside) a h = let none : [] ≡ a ∷ [] = h.arrivals in cc
+
+-- A message is taken in, and what comes of it is taken out.
+pub arrived_amid : (s : Settings) (rs : List Record) (es : List (Event Message)) (e : Event Message) (a : Arrival Message) (old new : Runner) (before now : Answer) (s1 s2 : Session Message ℕ) (t : List ℕ)
+    → Brings e (a ∷ []) → s1 ≡ arrived_at a old.session.session → TakesIncoming format s1 s2 before.text.items t
+    → TakesResponse format old.settings s2 new.session.session before.replies.items now.replies.items (open_at old) (open_at new) (closes before) (closes now)
+    → now.text.items ≡ t → new.settings ≡ old.settings → new.dropped ≡ old.dropped → Amid s rs es old before → Amid s rs (es ++ e ∷ []) new now
+arrived_amid s rs es e a old new before now s1 s2 t brings is1 first second text settings dropped h = record {
+  settings = settings ∙ h.settings;
+  stage = subst (λ u. Stage format s (events rs) (es ++ e ∷ []) new.session.session (open_at new) (closes now) u now.replies.items) (sym text)
+      (received format s (events rs) es e a brings old.session.session s1 s2 new.session.session (open_at old) (open_at new) (closes before) (closes now) before.text.items t before.replies.items now.replies.items
+      h.stage is1 first (subst (λ z. TakesResponse format z s2 new.session.session before.replies.items now.replies.items (open_at old) (open_at new) (closes before) (closes now)) h.settings second));
+  dropped = dropped ∙ h.dropped ∙ sym (plus0 (dropped_count (events rs ++ es))) ∙ ap (λ n. dropped_count (events rs ++ es) + n) (sym (brings_no_drop e a brings)) ∙ sym (dropped_more (events rs) es e);
+}
+  where
+    plus0 : (n : ℕ) → n + 0 ≡ n
+    plus0 n = omega arith
+
+-- A frame that can't be read, or a rest, is dropped.
+pub dropped_amid : (s : Settings) (rs : List Record) (es : List (Event Message)) (e : Event Message) (old : Runner) (now : Answer) → Brings e [] → drops e ≡ 1 → Amid s rs es old now
+    → Amid s rs (es ++ e ∷ []) (record old { dropped = old.dropped + 1 }) now
+dropped_amid s rs es e old now brings one h = record {
+  settings = h.settings;
+  stage = passed format s (events rs) es e brings old.session.session (open_at old) (closes now) now.text.items now.replies.items h.stage;
+  dropped = ap (λ n. n + 1) h.dropped ∙ ap (λ n. dropped_count (events rs ++ es) + n) (sym one) ∙ sym (dropped_more (events rs) es e);
+}
+
+-- ---- one frame more of a datagram
+
+module _ (source : SocketAddr) (bytes left : List ℕ) (d : Decoded Message) (front_is : d ≡ front format.reads bytes) (left_is : left ≡ without_front bytes) where
+  -- what stands in front of bytes
+  data Fronts : Type 0 where
+    A_frame : begins bytes ≡ true → Fronts
+    A_rest : begins bytes ≡ false → Fronts
+
+  at_front : Fronts
+  at_front = by (begins bytes) refl
+    where
+      by : (b : Bool) → begins bytes ≡ b → Fronts
+      by true e = A_frame e
+      by false e = A_rest e
+
+  told_here : begins bytes ≡ true → d ≡ told bytes (frame_at format.reads bytes)
+  told_here e = front_is ∙ ap (λ b. cond b (told bytes (frame_at format.reads bytes)) (rest_told bytes)) e
+
+  rest_here : begins bytes ≡ false → d ≡ rest_told bytes
+  rest_here e = front_is ∙ ap (λ b. cond b (told bytes (frame_at format.reads bytes)) (rest_told bytes)) e
+
+  cut_here : begins bytes ≡ true → datagram_events format source bytes ≡ brought format source bytes (frame_at format.reads bytes) ∷ datagram_events format source left
+  cut_here e = next_event format source bytes e ∙ ap (λ b. brought format source bytes (frame_at format.reads bytes) ∷ datagram_events format source b) (sym (left_is ∙ ap (λ b. cond b (behind bytes) []) e))
+
+  none_left : begins bytes ≡ false → left ≡ []
+  none_left e = left_is ∙ ap (λ b. cond b (behind bytes) []) e
+
+  module _ (s : Settings) (rs : List Record) (es : List (Event Message)) where
+    pub message_advances : (m : NetlinkMessage Message) (new : Runner) (now : Answer) → d ≡ decoded.Message m
+        → ((e : Event Message) → Brings e (record { message = m; source = source } ∷ []) → Amid s rs (es ++ e ∷ []) new now) → Advances s rs es source bytes left new now
+    message_advances m new now is amid = by at_front
+      where
+        by : Fronts → Advances s rs es source bytes left new now
+        by (A_rest e) = absurd (no_rest bytes (sym is ∙ rest_here e))
+          where
+            no_rest : (b : List ℕ) → ◌≡◌ {A = Decoded Message} (decoded.Message m) (rest_told b) → ⊥
+            no_rest [] g = cc
+            no_rest (x ∷ xs) g = cc
+        by (A_frame e) =
+            let read = reads_as (frame_at format.reads bytes) (sym is ∙ told_here e) in
+            record { event = Came m source; cut = cut_here e ∙ ap (λ r. brought format source bytes r ∷ datagram_events format source left) read; amid = amid (Came m source) (came m source) }
+          where
+            reads_as : (r : Result (NetlinkMessage Message) DecodeError) → ◌≡◌ {A = Decoded Message} (decoded.Message m) (told bytes r) → r ≡ Ok m
+            reads_as (Ok k) g = let same : m ≡ k = cc in ap Ok (sym same)
+            reads_as (Err k) g = cc
+
+    pub dropped_advances : ((k : ℕ) × (n : ℕ) × (d ≡ decoded.Unreadable k n)) ⊎ ((n : ℕ) × (d ≡ decoded.Rest n)) → (old : Runner) (now : Answer) → Amid s rs es old now
+        → Advances s rs es source bytes left (record old { dropped = old.dropped + 1 }) now
+    dropped_advances (inl u) old now amid = by at_front
+      where
+        by : Fronts → Advances s rs es source bytes left (record old { dropped = old.dropped + 1 }) now
+        by (A_rest e) = absurd (no_rest bytes (sym u.2 ∙ rest_here e))
+          where
+            no_rest : (b : List ℕ) → ◌≡◌ {A = Decoded Message} (decoded.Unreadable u.0 u.1) (rest_told b) → ⊥
+            no_rest [] g = cc
+            no_rest (x ∷ xs) g = cc
+        by (A_frame e) =
+            let h = header_at bytes in
+            record {
+              event = Unread h.message_type h.sequence_number source;
+              cut = cut_here e ∙ ap (λ v. v ∷ datagram_events format source left) (unread_as (frame_at format.reads bytes) (sym u.2 ∙ told_here e));
+              amid = dropped_amid s rs es (Unread h.message_type h.sequence_number source) old now (unread h.message_type h.sequence_number source) refl amid;
+            }
+          where
+            unread_as : (r : Result (NetlinkMessage Message) DecodeError) → ◌≡◌ {A = Decoded Message} (decoded.Unreadable u.0 u.1) (told bytes r) → brought format source bytes r ≡ Unread (header_at bytes).message_type (header_at bytes).sequence_number source
+            unread_as (Ok k) g = cc
+            unread_as (Err k) g = refl
+    dropped_advances (inr u) old now amid = by at_front
+      where
+        by : Fronts → Advances s rs es source bytes left (record old { dropped = old.dropped + 1 }) now
+        by (A_frame e) = absurd (no_frame (frame_at format.reads bytes) (sym u.1 ∙ told_here e))
+          where
+            no_frame : (r : Result (NetlinkMessage Message) DecodeError) → ◌≡◌ {A = Decoded Message} (decoded.Rest u.0) (told bytes r) → ⊥
+            no_frame (Ok k) g = cc
+            no_frame (Err k) g = cc
+        by (A_rest e) = record {
+          event = Leftover (length bytes) source;
+          cut = last_event format source bytes e ∙ left_over bytes (sym u.1 ∙ rest_here e) ∙ ap (λ b. Leftover (length bytes) source ∷ datagram_events format source b) (sym (none_left e));
+          amid = dropped_amid s rs es (Leftover (length bytes) source) old now (leftover_brings (length bytes) source) refl amid;
+        }
+          where
+            one_more : (n : ℕ) → n + 1 ≡ suc n
+            one_more n = omega arith
+
+            left_over : (b : List ℕ) → ◌≡◌ {A = Decoded Message} (decoded.Rest u.0) (rest_told b) → leftover format source b ≡ Leftover (length b) source ∷ []
+            left_over [] g = cc
+            left_over (x ∷ xs) g = ap (λ n. Leftover n source ∷ []) (one_more (length xs))
+
+  -- a frame or a rest takes bytes away
+  pub message_shorter : (m : NetlinkMessage Message) → d ≡ decoded.Message m → length left < length bytes
+  message_shorter m is = by at_front
+    where
+      by : Fronts → length left < length bytes
+      by (A_frame e) =
+          let gone : left ≡ behind bytes = left_is ∙ ap (λ b. cond b (behind bytes) []) e in
+          let same : length left ≡ length (behind bytes) = ap length gone in
+          omega (arith, shorter bytes e, same)
+      by (A_rest e) = absurd (no_rest bytes (sym is ∙ rest_here e))
+        where
+          no_rest : (b : List ℕ) → ◌≡◌ {A = Decoded Message} (decoded.Message m) (rest_told b) → ⊥
+          no_rest [] g = cc
+          no_rest (x ∷ xs) g = cc
+
+  pub dropped_shorter : ((k : ℕ) × (n : ℕ) × (d ≡ decoded.Unreadable k n)) ⊎ ((n : ℕ) × (d ≡ decoded.Rest n)) → length left < length bytes
+  dropped_shorter u = by at_front u
+    where
+      none : (b : List ℕ) (n : ℕ) → ◌≡◌ {A = Decoded Message} (decoded.Rest n) (rest_told b) → 0 < length b
+      none [] n g = cc
+      none (x ∷ xs) n g = omega arith
+
+      no_rest : (b : List ℕ) (k n : ℕ) → ◌≡◌ {A = Decoded Message} (decoded.Unreadable k n) (rest_told b) → ⊥
+      no_rest [] k n g = cc
+      no_rest (x ∷ xs) k n g = cc
+
+      by : Fronts → ((k : ℕ) × (n : ℕ) × (d ≡ decoded.Unreadable k n)) ⊎ ((n : ℕ) × (d ≡ decoded.Rest n)) → length left < length bytes
+      by (A_frame e) v =
+          let gone : left ≡ behind bytes = left_is ∙ ap (λ b. cond b (behind bytes) []) e in
+          let same : length left ≡ length (behind bytes) = ap length gone in
+          omega (arith, shorter bytes e, same)
+      by (A_rest e) (inl v) = absurd (no_rest bytes v.0 v.1 (sym v.2 ∙ rest_here e))
+      by (A_rest e) (inr v) =
+          let gone : length left ≡ 0 = ap length (none_left e) in
+          omega (arith, gone, none bytes v.0 (sym v.1 ∙ rest_here e))
+
+  pub none_empty : d ≡ decoded.Empty → bytes ≡ []
+  none_empty is = by at_front
+    where
+      no_frame : (r : Result (NetlinkMessage Message) DecodeError) → ◌≡◌ {A = Decoded Message} decoded.Empty (told bytes r) → ⊥
+      no_frame (Ok k) g = cc
+      no_frame (Err k) g = cc
+
+      empty : (b : List ℕ) → ◌≡◌ {A = Decoded Message} decoded.Empty (rest_told b) → b ≡ []
+      empty [] g = refl
+      empty (x ∷ xs) g = cc
+
+      by : Fronts → bytes ≡ []
+      by (A_frame e) = absurd (no_frame (frame_at format.reads bytes) (sym is ∙ told_here e))
+      by (A_rest e) = empty bytes (sym is ∙ rest_here e)
+
+-- ---- the whole datagram
+
+pub keeps_all : (a b c : Runner) → Keeps a b → Keeps b c → Keeps a c
+keeps_all a b c h k = record {
+  settings = k.settings ∙ h.settings;
+  last = k.last ∙ h.last;
+  streams = k.streams ∙ h.streams;
+  lines = k.lines ∙ h.lines;
+  closed = k.closed ∙ h.closed;
+}
+
+-- one event more, of those that are left
+pub more_events : (s : Settings) (rs : List Record) (source : SocketAddr) (bytes left whole : List ℕ) (old new : Runner) (before now : Answer)
+    → (es : List (Event Message)) × (es ++ datagram_events format source bytes ≡ datagram_events format source whole) × Amid s rs es old before
+    → ((es : List (Event Message)) → Amid s rs es old before → Advances s rs es source bytes left new now)
+    → (es : List (Event Message)) × (es ++ datagram_events format source left ≡ datagram_events format source whole) × Amid s rs es new now
+more_events s rs source bytes left whole old new before now h step =
+    let a = step h.0 h.2 in (
+      h.0 ++ a.event ∷ [],
+      append_assoc h.0 (a.event ∷ []) (datagram_events format source left) ∙ ap (λ es. h.0 ++ es) (sym a.cut) ∙ h.1,
+      a.amid,
+    )
+
+pub no_more_events : (s : Settings) (rs : List Record) (source : SocketAddr) (bytes whole : List ℕ) (old : Runner) (now : Answer) → bytes ≡ []
+    → (es : List (Event Message)) × (es ++ datagram_events format source bytes ≡ datagram_events format source whole) × Amid s rs es old now
+    → Amid s rs (datagram_events format source whole) old now
+no_more_events s rs source bytes whole old now none h =
+    subst (λ es. Amid s rs es old now) (sym (append-nil h.0) ∙ ap (λ b. h.0 ++ datagram_events format source b) (sym none) ∙ h.1) h.2
+
+-- the message that an overrun is
+pub overran_by : (m : NetlinkMessage Message) (a : SocketAddr) → m ≡ overrun_arrival.message → a.port ≡ 0 → a.groups ≡ 0 → Brings Overran (record { message = m; source = a } ∷ [])
+overran_by m a is port groups =
+    let source : a ≡ record { port = 0; groups = 0 } = ap (λ p. record { port = p; groups = a.groups }) port ∙ ap (λ g. record { port = 0; groups = g }) groups in
+    subst (λ (b : Arrival Message). Brings Overran (b ∷ [])) (sym (ap (λ k. record { message = k; source = a }) is ∙ ap (λ b. record { message = overrun_arrival.message; source = b }) source)) overran

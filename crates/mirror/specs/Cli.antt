@@ -7,8 +7,8 @@ use Rattle.session_model.specs.declared.outcome.RunFault.{RunFault}
 use Rattle.session_model.specs.declared.outcome.RunFault.TheVariants as run
 use Rattle.session_model.specs.Lines.{line}
 use Rattle.mirror.specs.Faults.{IsWriting}
-use Rattle.mirror.specs.Io.{with_back}
-use Rattle.mirror.specs.Outcome.{GainedSome, WasEnded, WasRun}
+use Rattle.mirror.specs.Io.{GainedSome, with_back}
+use Rattle.mirror.specs.Outcome.{WasEnded, WasRun}
 
 -- The exit status of a fault.
 abbrev pub fault_status : RunFault → ℕ

@@ -2,12 +2,12 @@
 use Rattle.session_model.specs.declared.outcome.RunFault.{RunFault}
 use Rattle.session_model.specs.declared.outcome.RunFault.TheVariants as run
 
--- A fault of the input, or want of memory. Every frame that is read fits, and no link closes yet.
+-- A fault of the input, or want of memory.
 abbrev pub IsTaking : RunFault → Type 0
 IsTaking (run.BadRecord at) = Unit {0}
-IsTaking (run.Closed at) = ⊥
+IsTaking (run.Closed at) = Unit {0}
 IsTaking (run.SequenceExhausted at) = Unit {0}
-IsTaking (run.Unfit at) = ⊥
+IsTaking (run.Unfit at) = Unit {0}
 IsTaking run.Limit = Unit {0}
 IsTaking run.ReadFault = ⊥
 IsTaking run.WriteFault = ⊥
@@ -24,13 +24,13 @@ IsWriting run.ReadFault = ⊥
 IsWriting run.WriteFault = Unit {0}
 IsWriting run.NoMemory = Unit {0}
 
--- Any fault but those two that don't come yet.
-abbrev pub IsPlain : RunFault → Type 0
-IsPlain (run.BadRecord at) = Unit {0}
-IsPlain (run.Closed at) = ⊥
-IsPlain (run.SequenceExhausted at) = Unit {0}
-IsPlain (run.Unfit at) = ⊥
-IsPlain run.Limit = Unit {0}
-IsPlain run.ReadFault = Unit {0}
-IsPlain run.WriteFault = Unit {0}
-IsPlain run.NoMemory = Unit {0}
+-- A fault of a step: the record isn't taken, or its text isn't written, or memory ran out.
+abbrev pub IsStepping : RunFault → Type 0
+IsStepping (run.BadRecord at) = ⊥
+IsStepping (run.Closed at) = Unit {0}
+IsStepping (run.SequenceExhausted at) = Unit {0}
+IsStepping (run.Unfit at) = Unit {0}
+IsStepping run.Limit = ⊥
+IsStepping run.ReadFault = ⊥
+IsStepping run.WriteFault = Unit {0}
+IsStepping run.NoMemory = Unit {0}

@@ -1,5 +1,5 @@
 -- Where a run stands after a part of its input.
-use Rattle.std.specs.Prelude.{◌≡◌, ◌≤◌, ℕ, false, List, ◌++◌, length, vec_len}
+use Rattle.std.specs.Prelude.{◌≡◌, ◌+◌, ◌*◌, ◌≤◌, ℕ, false, List, ◌++◌, length, vec_len}
 use Rattle.session_model.specs.declared.settings.Settings.{Settings}
 use Rattle.session_model.specs.declared.outcome.RunFault.{RunFault}
 use Rattle.session_model.specs.declared.outcome.RunFault.TheVariants as run
@@ -8,8 +8,7 @@ use Rattle.session_model.specs.Causes.{Stops}
 use Rattle.session_model.specs.Transcript.{lines_of, has_newline}
 use Rattle.mirror.specs.declared.progress.Progress.{Progress}
 use Rattle.mirror.specs.declared.runner.Runner.{Runner}
-use Rattle.mirror.specs.Built.{IsBuilt}
-use Rattle.mirror.specs.Format.{format}
+use Rattle.mirror.specs.Format.{IsEntry, format}
 use Rattle.mirror.specs.Steps.{Tracks, Counted, AreAllTaken, text_of}
 
 -- Bytes are the lines of records that are taken and an unfinished line, and text is the text of these records.
@@ -26,19 +25,20 @@ Fed runner line waiting piece runner' line' waiting' =
     (s : Settings) (bytes text : List ℕ) → Reached s bytes runner line text
     → (more : List ℕ) × Reached s (bytes ++ piece) runner' line' (text ++ more) × (waiting' ≡ waiting ++ more)
 
--- The counts of a run stay within the count of bytes taken.
+-- The counts of a run stay within half the count of bytes of whole lines.
 pub record Steady (p : Progress) : Type 0 where
   pub counted : Counted p.runner
-  pub lines : p.runner.lines ≤ p.taken
-  pub line : vec_len p.line ≤ p.taken
+  pub lines : 2 * p.runner.lines + vec_len p.line ≤ p.taken
+  pub messages : 2 * p.runner.messages + vec_len p.line ≤ p.taken
+  pub dropped : 2 * p.runner.dropped + vec_len p.line ≤ p.taken
 
 -- Why a run halts behind records, before what is left of the input, want of memory apart.
 abbrev pub HaltsBy : Settings → List Record → List ℕ → RunFault → Type 0
-HaltsBy s rs left (run.BadRecord at) = Stops format s IsBuilt rs left (run.BadRecord at)
-HaltsBy s rs left (run.Closed at) = Stops format s IsBuilt rs left (run.Closed at)
-HaltsBy s rs left (run.SequenceExhausted at) = Stops format s IsBuilt rs left (run.SequenceExhausted at)
-HaltsBy s rs left (run.Unfit at) = Stops format s IsBuilt rs left (run.Unfit at)
-HaltsBy s rs left run.Limit = Stops format s IsBuilt rs left run.Limit
+HaltsBy s rs left (run.BadRecord at) = Stops format s IsEntry rs left (run.BadRecord at)
+HaltsBy s rs left (run.Closed at) = Stops format s IsEntry rs left (run.Closed at)
+HaltsBy s rs left (run.SequenceExhausted at) = Stops format s IsEntry rs left (run.SequenceExhausted at)
+HaltsBy s rs left (run.Unfit at) = Stops format s IsEntry rs left (run.Unfit at)
+HaltsBy s rs left run.Limit = Stops format s IsEntry rs left run.Limit
 HaltsBy s rs left run.ReadFault = Unit {0}
 HaltsBy s rs left run.WriteFault = Unit {0}
 HaltsBy s rs left run.NoMemory = Unit {0}

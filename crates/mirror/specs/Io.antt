@@ -29,3 +29,14 @@ abbrev pub DidWrite : Option (List ℕ) → Wrote → List ℕ → Option (List 
 DidWrite before (wrote.Took n) piece after = (1 ≤ n) × (n ≤ length piece) × (after ≡ with_back before (take n piece))
 DidWrite before wrote.Failed piece after = after ≡ before
 DidWrite before wrote.NoMemory piece after = after ≡ before
+
+-- A sink gained the front of a text, and the rest of it waits.
+pub record Gained (written_then written_now : Option (List ℕ)) (text rest : List ℕ) : Type 0 where
+  pub shown : List ℕ
+  pub wrote : written_now ≡ with_back written_then shown
+  pub told : text ≡ shown ++ rest
+
+-- A sink gained some front of a text.
+pub record GainedSome (written_then written_now : Option (List ℕ)) (text : List ℕ) : Type 0 where
+  pub rest : List ℕ
+  pub gained : Gained written_then written_now text rest

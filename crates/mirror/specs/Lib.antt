@@ -1,4 +1,3 @@
-pub mod Built
 pub mod Cli
 pub mod Faults
 pub mod Feeding
@@ -7,5 +6,6 @@ pub mod Io
 pub mod Memory
 pub mod Options
 pub mod Outcome
+pub mod Refusals
 pub mod Steps
 pub mod Words

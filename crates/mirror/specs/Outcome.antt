@@ -9,22 +9,10 @@ use Rattle.session_model.specs.Causes.{HasCause, IsValid}
 use Rattle.session_model.specs.Reported.{report_of}
 use Rattle.session_model.specs.Transcript.{lines_of, has_newline}
 use Rattle.mirror.specs.declared.progress.Progress.{Progress}
-use Rattle.mirror.specs.Built.{IsBuilt}
+use Rattle.mirror.specs.Format.{IsEntry, format}
 use Rattle.mirror.specs.Feeding.{Reached}
-use Rattle.mirror.specs.Format.{format}
-use Rattle.mirror.specs.Io.{with_front, with_back}
+use Rattle.mirror.specs.Io.{with_front, with_back, Gained}
 use Rattle.mirror.specs.Steps.{AreAllTaken, text_of}
-
--- A sink gained the front of a text, and the rest of it waits.
-pub record Gained (written_then written_now : Option (List ℕ)) (text rest : List ℕ) : Type 0 where
-  pub shown : List ℕ
-  pub wrote : written_now ≡ with_back written_then shown
-  pub told : text ≡ shown ++ rest
-
--- A sink gained some front of a text.
-pub record GainedSome (written_then written_now : Option (List ℕ)) (text : List ℕ) : Type 0 where
-  pub rest : List ℕ
-  pub gained : Gained written_then written_now text rest
 
 -- A run goes on: what it took of its source is lines and an unfinished line, and what the sink gained and what waits is
 -- their text.
@@ -50,11 +38,11 @@ pub record Standing (s : Settings) (left_then left_now written_then written_now 
 -- How a run ended behind records and a part. A fault of the input is its cause, and no text is lost; where reading failed
 -- the part holds no whole line, and no text is lost; where writing failed or memory ran out, the rest of the text is lost.
 abbrev pub EndsBy : Settings → Option (List ℕ) → List Record → List ℕ → List ℕ → RunFault → Type 0
-EndsBy s left_now rs part lost (run.BadRecord at) = (lost ≡ []) × ((after : List ℕ) → left_now ≡ Some after → HasCause format s IsBuilt ((lines_of rs ++ part) ++ after) rs (run.BadRecord at))
-EndsBy s left_now rs part lost (run.Closed at) = (lost ≡ []) × ((after : List ℕ) → left_now ≡ Some after → HasCause format s IsBuilt ((lines_of rs ++ part) ++ after) rs (run.Closed at))
-EndsBy s left_now rs part lost (run.SequenceExhausted at) = (lost ≡ []) × ((after : List ℕ) → left_now ≡ Some after → HasCause format s IsBuilt ((lines_of rs ++ part) ++ after) rs (run.SequenceExhausted at))
-EndsBy s left_now rs part lost (run.Unfit at) = (lost ≡ []) × ((after : List ℕ) → left_now ≡ Some after → HasCause format s IsBuilt ((lines_of rs ++ part) ++ after) rs (run.Unfit at))
-EndsBy s left_now rs part lost run.Limit = (lost ≡ []) × ((after : List ℕ) → left_now ≡ Some after → HasCause format s IsBuilt ((lines_of rs ++ part) ++ after) rs run.Limit)
+EndsBy s left_now rs part lost (run.BadRecord at) = (lost ≡ []) × ((after : List ℕ) → left_now ≡ Some after → HasCause format s IsEntry ((lines_of rs ++ part) ++ after) rs (run.BadRecord at))
+EndsBy s left_now rs part lost (run.Closed at) = (lost ≡ []) × ((after : List ℕ) → left_now ≡ Some after → HasCause format s IsEntry ((lines_of rs ++ part) ++ after) rs (run.Closed at))
+EndsBy s left_now rs part lost (run.SequenceExhausted at) = (lost ≡ []) × ((after : List ℕ) → left_now ≡ Some after → HasCause format s IsEntry ((lines_of rs ++ part) ++ after) rs (run.SequenceExhausted at))
+EndsBy s left_now rs part lost (run.Unfit at) = (lost ≡ []) × ((after : List ℕ) → left_now ≡ Some after → HasCause format s IsEntry ((lines_of rs ++ part) ++ after) rs (run.Unfit at))
+EndsBy s left_now rs part lost run.Limit = (lost ≡ []) × ((after : List ℕ) → left_now ≡ Some after → HasCause format s IsEntry ((lines_of rs ++ part) ++ after) rs run.Limit)
 EndsBy s left_now rs part lost run.ReadFault = (lost ≡ []) × (has_newline part ≡ false)
 EndsBy s left_now rs part lost run.WriteFault = Unit {0}
 EndsBy s left_now rs part lost run.NoMemory = Unit {0}
@@ -74,6 +62,6 @@ pub record WasRun (s : Settings) (left_then left_now written_then written_now : 
   pub input : List ℕ
   pub records : List Record
   pub read : left_then ≡ with_front input left_now
-  pub valid : IsValid format s IsBuilt input records
+  pub valid : IsValid format s IsEntry input records
   pub wrote : written_now ≡ with_back written_then (text_of s records)
   pub reported : report ≡ report_of format s records

@@ -1,16 +1,14 @@
 // The program over any source and sink.
-ghost use Rattle.std.specs.Prelude.{◌≡◌, ◌≤◌, ◌↔◌, ◌++◌, IsTrue, OnOk, OnErr, IfErr, Err, map, string_bytes};
+ghost use Rattle.std.specs.Prelude.{◌≡◌, ◌≤◌, ◌++◌, OnOk, OnErr, IfErr, Err, map, string_bytes};
 ghost use Rattle.session_model.specs.declared.settings.Settings.{Settings};
 ghost use Rattle.mirror.specs.Cli.{HasFailed, Ran, WasTold, fault_status, ok_line};
-ghost use Rattle.mirror.specs.Faults.{IsPlain, IsWriting};
-ghost use Rattle.mirror.specs.Io.{with_back, HasRisen};
+ghost use Rattle.mirror.specs.Faults.{IsWriting};
+ghost use Rattle.mirror.specs.Io.{GainedSome, HasRisen, with_back};
 ghost use Rattle.mirror.specs.Options.{SpellSettings};
-ghost use Rattle.mirror.specs.Outcome.{GainedSome};
 
-use crate::io::{Sink, Source};
+use crate::io::{Sink, Source, write_all};
 use crate::options::read_words;
 use crate::program::run;
-use crate::progress::write_all;
 use crate::words::{Word, put_line};
 use nl_core::NoMemory;
 use session_model::{Report, RunFault, Settings};
@@ -37,9 +35,6 @@ pub fn cli<S: Source, K: Sink>(alloc: Global, words: &[String], input: &mut S, o
     ensures other { ((settings : Settings) → ¬ (SpellSettings (map string_bytes words.now) settings)) → (result ≡ 1) × (input.new ≡ input.old) × (out.new ≡ out.old) }
     ensures usage { result ≡ 1 → (settings : Settings) → ¬ (SpellSettings (map string_bytes words.now) settings) }
 
-    // No link closes yet, and every frame that is read fits.
-    ensures open { ¬ (result ≡ 3) }
-    ensures fits { ¬ (result ≡ 5) }
     ensures read_cause { result ≡ 7 → HasRisen (S.faults input.old) (S.faults input.new) }
     ensures write_cause { result ≡ 8 → HasRisen (K.faults out.old) (K.faults out.new) }
 {
@@ -77,7 +72,6 @@ fn run_and_tell<S: Source, K: Sink>(
 ) -> Result<(), RunFault>
     ensures ok { OnOk result (WasTold settings.now (S.left input.old) (S.left input.new) (K.written out.old) (K.written out.new)) }
     ensures failed { IfErr result (HasFailed settings.now (S.left input.old) (S.left input.new) (K.written out.old) (K.written out.new)) }
-    ensures only { IfErr result IsPlain }
     ensures read_cause { result ≡ Err RunFault.ReadFault → HasRisen (S.faults input.old) (S.faults input.new) }
     ensures write_cause { result ≡ Err RunFault.WriteFault → HasRisen (K.faults out.old) (K.faults out.new) }
 {

@@ -1,6 +1,9 @@
 // Where bytes come from and go to.
-ghost use Rattle.std.specs.Prelude.{◌≡◌, ◌<◌, ◌≤◌, List, ℕ, Option, length};
-ghost use Rattle.mirror.specs.Io.{DidRead, DidWrite, HasRisen};
+ghost use Rattle.std.specs.Prelude.{◌≡◌, ◌<◌, ◌≤◌, Err, IfErr, List, OnErr, OnOk, Option, Some, length, ℕ};
+ghost use Rattle.mirror.specs.Faults.{IsWriting};
+ghost use Rattle.mirror.specs.Io.{DidRead, DidWrite, GainedSome, HasRisen, with_back};
+
+use session_model::RunFault;
 
 /// The answer of a read: so many bytes at the buffer's front, the end, or a fault.
 #[derive(Clone, Copy, Debug, PartialEq, Eq)]
@@ -50,4 +53,40 @@ pub trait Sink {
         ensures wrote { DidWrite (written self.old) result piece.now (written self.new) }
         ensures cause { result ≡ Wrote.Failed → HasRisen (faults self.old) (faults self.new) }
         ensures later { faults self.old ≤ faults self.new };
+}
+
+/// Writes all of a text.
+pub fn write_all<K: Sink>(out: &mut K, text: &[u8]) -> Result<(), RunFault>
+    ensures ok { OnOk result (K.written out.new ≡ with_back (K.written out.old) text.now) }
+    ensures part { OnErr result (GainedSome (K.written out.old) (K.written out.new) text.now) }
+    ensures cause { result ≡ Err RunFault.WriteFault → HasRisen (K.faults out.old) (K.faults out.new) }
+    ensures only { IfErr result IsWriting }
+    ensures later { K.faults out.old ≤ K.faults out.new }
+{
+    let mut rest = text;
+    while !rest.is_empty() {
+        match out.write(rest) {
+            Wrote::Took(count) => {
+                let (_, later) = rest.split_at(count);
+                rest = later;
+            }
+            Wrote::Failed => return Err(RunFault::WriteFault),
+            Wrote::NoMemory => return Err(RunFault::NoMemory),
+        }
+    }
+    Ok(())
+}
+
+// A vector takes all that is written to it.
+impl Sink for Vec<u8> {
+    ghost written = { λ v. Some v.items };
+
+    ghost faults = { λ v. 0 };
+
+    fn write(&mut self, piece: &[u8]) -> Wrote {
+        match self.extend_from_slice(piece) {
+            Ok(()) => Wrote::Took(piece.len()),
+            Err(_) => Wrote::NoMemory,
+        }
+    }
 }

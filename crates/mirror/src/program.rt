@@ -1,7 +1,6 @@
 // A transcript in, its text out.
 ghost use Rattle.std.specs.Prelude.{◌≡◌, ◌≤◌, [], OnOk, IfOk, IfErr, IfSome, Err};
 ghost use Rattle.mirror.specs.Io.{HasRisen};
-ghost use Rattle.mirror.specs.Faults.{IsPlain};
 ghost use Rattle.mirror.specs.Outcome.{WasRun, WasEnded};
 
 use crate::io::{Sink, Source};
@@ -23,7 +22,6 @@ pub fn run<S: Source, K: Sink>(
 
     // A fault of the input is its cause, at its place; and how much of the text of the records before it was written.
     ensures ended { IfErr result (WasEnded settings.now (S.left input.old) (S.left input.new) (K.written out.old) (K.written out.new)) }
-    ensures only { IfErr result IsPlain }
     ensures read_cause { result ≡ Err RunFault.ReadFault → HasRisen (S.faults input.old) (S.faults input.new) }
     ensures write_cause { result ≡ Err RunFault.WriteFault → HasRisen (K.faults out.old) (K.faults out.new) }
     ensures later { K.faults out.old ≤ K.faults out.new }

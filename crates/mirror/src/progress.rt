@@ -1,12 +1,12 @@
 // A run: what was read so far, and the text that isn't written yet.
-ghost use Rattle.std.specs.Prelude.{◌≡◌, ◌+◌, ◌^◌, ◌<◌, ◌≤◌, [], ◌∷◌, ◌++◌, OnOk, OnErr, IfOk, IfErr, IfSome, Err, length, vec_len};
-ghost use Rattle.mirror.specs.Io.{with_back, HasRisen};
-ghost use Rattle.mirror.specs.Faults.{IsTaking, IsWriting, IsPlain};
+ghost use Rattle.std.specs.Prelude.{◌≡◌, ◌+◌, ◌*◌, ◌^◌, ◌<◌, ◌≤◌, [], ◌∷◌, ◌++◌, OnOk, OnErr, IfOk, IfErr, IfSome, Err, length, vec_len};
+ghost use Rattle.mirror.specs.Io.{Gained, GainedSome, HasRisen, with_back};
+ghost use Rattle.mirror.specs.Faults.{IsTaking, IsWriting};
 ghost use Rattle.mirror.specs.Steps.{Counted};
 ghost use Rattle.mirror.specs.Feeding.{Reached, Steady, Fed, HaltedBy};
-ghost use Rattle.mirror.specs.Outcome.{Gained, GainedSome, Running, Standing, Ended};
+ghost use Rattle.mirror.specs.Outcome.{Running, Standing, Ended};
 
-use crate::io::{Read, Sink, Source, Wrote};
+use crate::io::{Read, Sink, Source, write_all};
 use crate::records::read_line;
 use crate::runner::Runner;
 use session_model::{RunFault, Settings};
@@ -17,38 +17,14 @@ const PIECE: usize = 16_384;
 
 const ENOUGH: usize = 65_536;
 
-/// The records so far, the unfinished line, the count of bytes taken, the text of the record at hand, and the text of
-/// records that isn't written yet.
+/// The records so far, the unfinished line, the count of bytes taken, and the text of records that isn't written yet.
 #[derive(Drop)]
 pub struct Progress {
     alloc: Global,
     pub runner: Runner,
     pub line: Vec<u8>,
     pub taken: u64,
-    answer: Vec<u8>,
     text: Vec<u8>,
-}
-
-// Writes all of it.
-pub fn write_all<K: Sink>(out: &mut K, text: &[u8]) -> Result<(), RunFault>
-    ensures ok { OnOk result (K.written out.new ≡ with_back (K.written out.old) text.now) }
-    ensures part { OnErr result (GainedSome (K.written out.old) (K.written out.new) text.now) }
-    ensures cause { result ≡ Err RunFault.WriteFault → HasRisen (K.faults out.old) (K.faults out.new) }
-    ensures only { IfErr result IsWriting }
-    ensures later { K.faults out.old ≤ K.faults out.new }
-{
-    let mut rest = text;
-    while !rest.is_empty() {
-        match out.write(rest) {
-            Wrote::Took(count) => {
-                let (_, later) = rest.split_at(count);
-                rest = later;
-            }
-            Wrote::Failed => return Err(RunFault::WriteFault),
-            Wrote::NoMemory => return Err(RunFault::NoMemory),
-        }
-    }
-    Ok(())
 }
 
 impl Progress {
@@ -65,7 +41,6 @@ impl Progress {
             runner: Runner::new(alloc, settings),
             line: Vec::new(alloc),
             taken: 0,
-            answer: Vec::new(alloc),
             text: Vec::new(alloc),
         }
     }
@@ -74,9 +49,10 @@ impl Progress {
     fn end_line(&mut self) -> Result<(), RunFault>
         requires steady { Steady self.old }
         requires within { self.old.taken < self.old.runner.settings.limit }
-        requires room { self.old.runner.lines + 1 < 2 ^ 64 }
         ensures counted { OnOk result (Counted self.new.runner) }
-        ensures lines { OnOk result (self.new.runner.lines ≡ self.old.runner.lines + 1) }
+        ensures lines { OnOk result (2 * self.new.runner.lines ≤ self.old.taken + 1) }
+        ensures messages { OnOk result (2 * self.new.runner.messages ≤ self.old.taken + 1) }
+        ensures dropped { OnOk result (2 * self.new.runner.dropped ≤ self.old.taken + 1) }
         ensures line { OnOk result ((self.new.line.items ≡ []) × (vec_len self.new.line ≡ 0)) }
         ensures taken { self.new.taken ≡ self.old.taken }
         ensures settings { self.new.runner.settings ≡ self.old.runner.settings }
@@ -88,12 +64,11 @@ impl Progress {
         let Some(entry) = read_line(self.alloc, self.line.as_slice())? else {
             return Err(RunFault::BadRecord { at });
         };
-        self.answer.clear();
-        match self.runner.take(entry, &mut self.answer) {
-            Ok(()) => {}
-            Err(fault) => return Err(fault.at(at)),
+        let waiting = self.text.as_slice().len();
+        if let Err(fault) = self.runner.step(at, entry, &mut self.text) {
+            self.text.truncate(waiting);
+            return Err(fault);
         }
-        self.text.extend_from_slice(self.answer.as_slice())?;
         self.line.clear();
         Ok(())
     }
@@ -167,7 +142,6 @@ impl Progress {
         ensures ok { OnOk result (Running self.old.runner.settings (S.left input.old) (S.left input.new) (K.written out.old) (K.written out.new) self.new) }
         ensures end { OnOk result (IfSome (S.left input.new) (λ rest. rest ≡ [])) }
         ensures ended { IfErr result (Ended self.old.runner.settings (S.left input.old) (S.left input.new) (K.written out.old) (K.written out.new) self.new.text.items) }
-        ensures only { IfErr result IsPlain }
         ensures read_cause { result ≡ Err RunFault.ReadFault → HasRisen (S.faults input.old) (S.faults input.new) }
         ensures write_cause { result ≡ Err RunFault.WriteFault → HasRisen (K.faults out.old) (K.faults out.new) }
         ensures later { K.faults out.old ≤ K.faults out.new }

@@ -1,268 +1,296 @@
 // A session run record by record.
-ghost use Rattle.std.specs.Prelude.{◌≡◌, ◌+◌, ◌<◌, ◌≤◌, ◌^◌, ◌∷◌, [], ◌++◌, ℕ, List, Ok, None, IfOk, OnOk, IfErr, true};
-ghost use Rattle.nl_core.specs.Frames.{frame_at};
-ghost use Rattle.session_model.specs.Transcript.{IsWholeFrame};
-ghost use Rattle.session_steps.specs.After.{TakesIncoming, TakesResponse, TakesOutgoing};
-ghost use Rattle.proto_core.specs.declared.request.ExpectResponse.TheVariants.{Explicit};
+ghost use Rattle.std.specs.Prelude.{◌≡◌, ◌+◌, ◌<◌, ◌≤◌, ◌^◌, ◌∷◌, [], ◌++◌, ℕ, List, Err, IfOk, OnOk, IfErr, false, length};
+ghost use Rattle.std.specs.Bool.{OnFalse, OnTrue};
+ghost use Rattle.std.specs.BTreeSet.{IsOrdered};
+ghost use Rattle.std.specs.Ordering.{nat_cmp};
+ghost use Rattle.session_model.specs.Events.{datagram_events, overrun_arrival};
 ghost use Rattle.mirror.specs.Format.{format};
+ghost use Rattle.mirror.specs.Faults.{IsStepping};
+ghost use Rattle.mirror.specs.Io.{HasRisen, with_back};
 
+use crate::answer::{Answer, close_all, open_stream};
+use crate::io::{Sink, write_all};
 use crate::message::Message;
-use crate::text::{put_incoming, put_outgoing, put_response};
-use nl_core::{DecodeError, Items, NetlinkMessage, NoMemory};
-use proto_core::{ExpectResponse, Protocol, Request, RequestRefusal};
-use session_model::{Record, Report, RunFault, Settings, SocketAddr};
+use crate::queues::{take_incoming, take_outgoing, take_response};
+use crate::request::{StepFault, count_awaited, read_frames};
+use bytes::BytesMut;
+use nl_core::{NLMSG_OVERRUN, NetlinkHeader, NetlinkMessage, NetlinkPayload, NoMemory, Octets};
+use proto_core::{Decoded, ExpectResponse, NetlinkCodec, NetlinkMessageCodec, Protocol, Request};
+use session_model::{BatchFrame, Record, Report, RunFault, Settings, SocketAddr};
 use std::alloc::Global;
+use std::collections::BTreeMap;
+use std::mem;
 
-/// Why a record isn't taken.
-#[derive(Clone, Copy, Debug, PartialEq, Eq)]
-pub enum StepFault {
-    SequenceExhausted,
-    Unfit,
-    NoMemory,
-}
-
-impl From<NoMemory> for StepFault {
-    ghost use Rattle.mirror.specs.declared.runner.StepFault.TheVariants.{NoMemory};
-
-    ghost from_gives = { λ _ e. e ≡ NoMemory };
-
-    fn from(_: NoMemory) -> Self {
-        StepFault::NoMemory
-    }
-}
-
-impl StepFault {
-    ghost use Rattle.mirror.specs.Steps.{fault_at};
-
-    /// The fault of a run, at the place of the record.
-    pub fn at(self, at: u64) -> RunFault
-        ensures { result ≡ fault_at self at }
-    {
-        match self {
-            StepFault::SequenceExhausted => RunFault::SequenceExhausted { at },
-            StepFault::Unfit => RunFault::Unfit { at },
-            StepFault::NoMemory => RunFault::NoMemory,
-        }
-    }
-}
-
-/// The session after the records so far.
+/// A session after the records that were taken so far.
 #[derive(Drop)]
 pub struct Runner {
     alloc: Global,
-    pub settings: Settings,
+    pub(crate) settings: Settings,
     session: Protocol<Message, u64>,
+    // How many numbers of each open stream are awaited.
+    open_streams: BTreeMap<u64, u64>,
     streams: u64,
     lines: u64,
     messages: u64,
+    dropped: u64,
+    closed: bool,
 }
 
-// The message of a frame that can be read.
-fn read_whole(alloc: Global, bytes: &[u8]) -> Result<NetlinkMessage<Message>, NoMemory>
-    requires { IsWholeFrame format bytes.now }
-    ensures { IfOk result (λ m. frame_at format.reads bytes.now ≡ Ok m) }
+// The message that an overrun of the link is.
+fn overrun(alloc: Global) -> NetlinkMessage<Message>
+    ensures { result ≡ overrun_arrival.message }
 {
-    match NetlinkMessage::<Message>::deserialize(alloc, bytes) {
-        Ok(message) => Ok(message),
-        Err(DecodeError::NoMemory) => Err(NoMemory),
-        Err(DecodeError::TooSmall { .. } | DecodeError::BadLength) => unreachable!(),
-    }
-}
-
-// Takes the reply that waits, if one does.
-fn take_response(
-    alloc: Global,
-    settings: &Settings,
-    session: &mut Protocol<Message, u64>,
-    text: &mut Vec<u8>,
-) -> Result<(), NoMemory>
-    ensures takes { OnOk result (TakesResponse format settings.now session.old.session session.new.session text.old.items text.new.items) }
-    ensures arrived { session.new.session.arrived ≡ session.old.session.arrived }
-    ensures last { session.new.session.last ≡ session.old.session.last }
-{
-    match session.next_response() {
-        None => Ok(()),
-        Some(response) => {
-            put_response(alloc, settings, text, &response)?;
-            Ok(())
-        }
-    }
-}
-
-// Takes the message that waits and that nothing awaited, if one does.
-fn take_incoming(
-    alloc: Global,
-    session: &mut Protocol<Message, u64>,
-    text: &mut Vec<u8>,
-) -> Result<(), NoMemory>
-    ensures takes { OnOk result (TakesIncoming format session.old.session session.new.session text.old.items text.new.items) }
-    ensures arrived { session.new.session.arrived ≡ session.old.session.arrived }
-    ensures last { session.new.session.last ≡ session.old.session.last }
-{
-    match session.next_incoming() {
-        None => Ok(()),
-        Some(incoming) => {
-            put_incoming(alloc, text, &incoming)?;
-            Ok(())
-        }
-    }
-}
-
-// Takes the datagram that is to be sent, if there is one.
-fn take_outgoing(
-    alloc: Global,
-    session: &mut Protocol<Message, u64>,
-    text: &mut Vec<u8>,
-) -> Result<(), NoMemory>
-    ensures takes { OnOk result (TakesOutgoing format session.old.session session.new.session text.old.items text.new.items) }
-    ensures arrived { session.new.session.arrived ≡ session.old.session.arrived }
-    ensures last { session.new.session.last ≡ session.old.session.last }
-{
-    match session.next_outgoing() {
-        None => Ok(()),
-        Some(outgoing) => {
-            put_outgoing(alloc, text, &outgoing)?;
-            Ok(())
-        }
-    }
-}
-
-// A request of one awaited message.
-fn request_of(
-    alloc: Global,
-    stream: u64,
-    to: SocketAddr,
-    message: NetlinkMessage<Message>,
-) -> Result<Request<Message, u64>, NoMemory>
-    ensures { IfOk result (λ r. r ≡ record { metadata = stream; messages = message ∷ []; destination = to; expect_response = Explicit (true ∷ []) }) }
-{
-    let mut messages = Items::new(alloc);
-    messages.push(message)?;
-    let mut marks = Items::new(alloc);
-    marks.push(true)?;
-    Ok(Request {
-        metadata: stream,
-        messages,
-        destination: to,
-        expect_response: ExpectResponse::Explicit(marks),
-    })
+    let header = NetlinkHeader {
+        length: 16,
+        message_type: NLMSG_OVERRUN,
+        ..NetlinkHeader::default()
+    };
+    NetlinkMessage::new(header, NetlinkPayload::Overrun(Octets::new(alloc)))
 }
 
 impl Runner {
     ghost use Rattle.session_model.specs.declared.settings.Settings.{Settings};
     ghost use Rattle.session_model.specs.declared.transcript.Record.{Record};
-    ghost use Rattle.session_model.specs.declared.transcript.Record.TheVariants.{Recv};
+    ghost use Rattle.session_model.specs.declared.transcript.Record.TheVariants.{Batch};
+    ghost use Rattle.session_model.specs.Events.{Event, record_events};
     ghost use Rattle.session_model.specs.Causes.{refusal};
     ghost use Rattle.session_model.specs.Reported.{report_of};
-    ghost use Rattle.mirror.specs.Built.{IsBuilt};
-    ghost use Rattle.mirror.specs.Steps.{Tracks, Counted, Stepping, Stepped, WhyNot, IsPlainStep, batch_of, events, text_behind};
+    ghost use Rattle.session_steps.specs.Stage.{Brings};
+    ghost use Rattle.mirror.specs.Format.{IsEntry, Message};
+    ghost use Rattle.mirror.specs.Steps.{Advances, Amid, Brought, Counted, Fails, Grows, Keeps, Sends, Tracks, WhyNot, text_behind, weight};
 
     /// No records so far.
     pub fn new(alloc: Global, settings: &Settings) -> Runner
         ensures tracks { Tracks settings.now [] result }
         ensures counted { Counted result }
-        ensures lines { result.lines ≡ 0 }
+        ensures none { (result.lines ≡ 0) × (result.messages ≡ 0) × (result.dropped ≡ 0) }
     {
         Runner {
             alloc,
             settings: *settings,
             session: Protocol::with_start(alloc, settings.start),
+            open_streams: BTreeMap::new(alloc),
             streams: 0,
             lines: 0,
             messages: 0,
+            dropped: 0,
+            closed: false,
         }
     }
 
-    // A batch of one awaited frame.
-    fn batch(&mut self, to: SocketAddr, bytes: &[u8], text: &mut Vec<u8>) -> Result<(), StepFault>
-        requires frame { IsWholeFrame format bytes.now }
-        requires room { self.old.streams < self.old.lines }
-        requires limit { self.old.lines < 2 ^ 64 }
-        ensures settings { self.new.settings ≡ self.old.settings }
-        ensures counts { OnOk result ((self.new.streams ≡ self.old.streams + 1) × (self.new.lines ≡ self.old.lines) × (self.new.messages ≡ self.old.messages)) }
-        ensures arrived { OnOk result (self.new.session.session.arrived ≡ self.old.session.session.arrived) }
-        ensures numbers { OnOk result (self.new.session.session.last < 2 ^ 32) }
-        ensures step { OnOk result ((s : Settings) (rs : List Record) → Stepped s rs (batch_of to bytes.now) self.old self.new text.old.items text.new.items) }
-        ensures free { OnOk result ((s : Settings) (rs : List Record) → Stepping s rs self.old → refusal format s (events rs) (batch_of to bytes.now) ≡ None) }
-        ensures cause { IfErr result (λ e. (s : Settings) (rs : List Record) → Stepping s rs self.old → WhyNot s rs (batch_of to bytes.now) e) }
-        ensures only { IfErr result IsPlainStep }
-    {
-        let alloc = self.alloc;
-        let message = read_whole(alloc, bytes)?;
-        let request = request_of(alloc, self.streams + 1, to, message)?;
-        match self.session.request(request) {
-            Ok(()) => {}
-            Err((RequestRefusal::SequenceExhausted { used: _, asked: _ }, _)) => {
-                return Err(StepFault::SequenceExhausted);
-            }
-            Err((RequestRefusal::Unfit { index: _ }, _)) => return Err(StepFault::Unfit),
-            Err((RequestRefusal::NoMemory, _)) => return Err(StepFault::NoMemory),
-        }
-        self.streams += 1;
-        take_outgoing(alloc, &mut self.session, text)?;
-        Ok(())
-    }
-
-    // A datagram of one frame.
-    fn recv(&mut self, source: SocketAddr, bytes: &[u8], text: &mut Vec<u8>) -> Result<(), NoMemory>
-        requires frame { IsWholeFrame format bytes.now }
-        requires room { self.old.messages < self.old.lines }
-        requires limit { self.old.lines < 2 ^ 64 }
+    // Takes in a message.
+    fn arrive(
+        &mut self,
+        message: NetlinkMessage<Message>,
+        source: SocketAddr,
+        answer: &mut Answer,
+    ) -> Result<(), NoMemory>
+        requires room { self.old.messages + 1 < 2 ^ 64 }
         requires arrived { self.old.session.session.arrived ≡ self.old.messages }
         ensures settings { self.new.settings ≡ self.old.settings }
-        ensures counts { OnOk result ((self.new.streams ≡ self.old.streams) × (self.new.lines ≡ self.old.lines) × (self.new.messages ≡ self.old.messages + 1)) }
+        ensures keeps { OnOk result (Keeps self.old self.new) }
+        ensures count { OnOk result ((self.new.messages ≡ self.old.messages + 1) × (self.new.dropped ≡ self.old.dropped)) }
         ensures arrived { OnOk result (self.new.session.session.arrived ≡ self.new.messages) }
-        ensures numbers { OnOk result (self.new.session.session.last ≡ self.old.session.session.last) }
-        ensures step { OnOk result ((s : Settings) (rs : List Record) → Stepped s rs (Recv source bytes.now) self.old self.new text.old.items text.new.items) }
+        ensures step { OnOk result ((s : Settings) (rs : List Record) (es : List (Event Message)) (e : Event Message) → Brings e (record { message = message; source = source } ∷ [])
+            → Amid s rs es self.old answer.old → Amid s rs (es ++ e ∷ []) self.new answer.new) }
     {
         let alloc = self.alloc;
-        let message = read_whole(alloc, bytes)?;
         self.session.reserve(1)?;
         self.messages += 1;
         self.session.handle_message(message, source);
-        take_incoming(alloc, &mut self.session, text)?;
-        take_response(alloc, &self.settings, &mut self.session, text)?;
+        take_incoming(alloc, &mut self.session, &mut answer.text)?;
+        take_response(
+            alloc,
+            &self.settings,
+            &mut self.session,
+            &mut self.open_streams,
+            answer,
+        )?;
         Ok(())
     }
 
-    /// Takes a record, and adds its text.
-    pub fn take(&mut self, entry: Record, text: &mut Vec<u8>) -> Result<(), StepFault>
-        requires built { IsBuilt entry }
-        requires counted { Counted self.old }
-        requires room { self.old.lines + 1 < 2 ^ 64 }
+    // Takes in what stands at the front of a datagram; whether there was anything.
+    fn take_next(
+        &mut self,
+        source: SocketAddr,
+        reader: &mut BytesMut,
+        answer: &mut Answer,
+    ) -> Result<bool, NoMemory>
+        requires room { (self.old.messages + length reader.old.items < 2 ^ 64) × (self.old.dropped + length reader.old.items < 2 ^ 64) }
+        requires arrived { self.old.session.session.arrived ≡ self.old.messages }
         ensures settings { self.new.settings ≡ self.old.settings }
-        ensures counted { OnOk result (Counted self.new) }
-        ensures lines { OnOk result (self.new.lines ≡ self.old.lines + 1) }
-        ensures step { OnOk result ((s : Settings) (rs : List Record) → Tracks s rs self.old → Tracks s (rs ++ entry ∷ []) self.new × (text.new.items ≡ text.old.items ++ text_behind s rs entry)) }
-        ensures cause { IfErr result (λ e. (s : Settings) (rs : List Record) → Tracks s rs self.old → WhyNot s rs entry e) }
-        ensures only { IfErr result IsPlainStep }
+        ensures keeps { OnOk result (Keeps self.old self.new) }
+        ensures arrived { OnOk result (self.new.session.session.arrived ≡ self.new.messages) }
+        ensures count { OnOk result ((self.new.messages ≤ self.old.messages + 1) × (self.new.dropped ≤ self.old.dropped + 1)) }
+        ensures shorter { IfOk result (λ more. OnTrue more (length reader.new.items < length reader.old.items)) }
+        ensures step { IfOk result (λ more. OnTrue more ((s : Settings) (rs : List Record) (es : List (Event Message)) → Amid s rs es self.old answer.old
+            → Advances s rs es source reader.old.items reader.new.items self.new answer.new)) }
+        ensures end { IfOk result (λ more. OnFalse more ((reader.old.items ≡ []) × (self.new ≡ self.old) × (answer.new ≡ answer.old))) }
     {
-        self.lines += 1;
+        match NetlinkCodec::decode_next(self.alloc, reader)? {
+            Decoded::Message(message) => self.arrive(message, source, answer)?,
+            Decoded::Unreadable { .. } | Decoded::Rest { .. } => self.dropped += 1,
+            Decoded::Empty => return Ok(false),
+        }
+        Ok(true)
+    }
+
+    // Takes in a datagram.
+    fn recv(
+        &mut self,
+        source: SocketAddr,
+        bytes: Octets,
+        answer: &mut Answer,
+    ) -> Result<(), NoMemory>
+        requires room { (self.old.messages + length bytes < 2 ^ 64) × (self.old.dropped + length bytes < 2 ^ 64) }
+        requires arrived { self.old.session.session.arrived ≡ self.old.messages }
+        ensures settings { self.new.settings ≡ self.old.settings }
+        ensures keeps { OnOk result (Keeps self.old self.new) }
+        ensures arrived { OnOk result (self.new.session.session.arrived ≡ self.new.messages) }
+        ensures count { OnOk result ((self.new.messages ≤ self.old.messages + length bytes) × (self.new.dropped ≤ self.old.dropped + length bytes)) }
+        ensures step { OnOk result ((s : Settings) (rs : List Record) → Amid s rs [] self.old answer.old → Amid s rs (datagram_events format source bytes) self.new answer.new) }
+    {
+        let mut reader = BytesMut::from(bytes.into_vec());
+        while self.take_next(source, &mut reader, answer)? {}
+        Ok(())
+    }
+
+    // Sends a batch.
+    fn batch(
+        &mut self,
+        to: SocketAddr,
+        frames: &[BatchFrame],
+        answer: &mut Answer,
+    ) -> Result<(), StepFault>
+        requires room { self.old.streams < 2 ^ 63 }
+        requires fresh { (answer.old.text.items ≡ []) × (answer.old.replies.items ≡ []) × (answer.old.closing.keys ≡ []) }
+        requires entry { IsEntry (Batch to frames.now) }
+        ensures settings { self.new.settings ≡ self.old.settings }
+        ensures kept { OnOk result ((self.new.lines ≡ self.old.lines) × (self.new.closed ≡ self.old.closed)) }
+        ensures counts { OnOk result ((self.new.streams ≡ self.old.streams + 1) × (self.new.messages ≡ self.old.messages) × (self.new.dropped ≡ self.old.dropped)) }
+        ensures arrived { OnOk result (self.new.session.session.arrived ≡ self.old.session.session.arrived) }
+        ensures numbers { OnOk result (self.new.session.session.last < 2 ^ 32) }
+        ensures step { OnOk result ((s : Settings) (rs : List Record) → Tracks s rs self.old → self.old.closed ≡ false → Sends s rs to frames.now self.new answer.new) }
+        ensures cause { IfErr result (λ e. (s : Settings) (rs : List Record) → Tracks s rs self.old → self.old.closed ≡ false → WhyNot s rs (Batch to frames.now) e) }
+    {
+        let alloc = self.alloc;
+        let (messages, marks) = read_frames(alloc, frames)?;
+        let awaited = count_awaited(marks.as_slice());
+        let request = Request {
+            metadata: self.streams + 1,
+            messages,
+            destination: to,
+            expect_response: ExpectResponse::Explicit(marks),
+        };
+        match self.session.request(request) {
+            Ok(()) => {}
+            Err((refusal, _)) => return Err(StepFault::from(refusal)),
+        }
+        self.streams += 1;
+        take_outgoing(alloc, &mut self.session, &mut answer.text)?;
+        open_stream(
+            &mut self.open_streams,
+            &mut answer.closing,
+            self.streams,
+            awaited,
+        )?;
+        Ok(())
+    }
+
+    // Takes in what a record brings.
+    fn bring(&mut self, entry: Record, answer: &mut Answer) -> Result<(), StepFault>
+        requires entry { IsEntry entry }
+        requires counted { Counted self.old }
+        requires fresh { (answer.old.text.items ≡ []) × (answer.old.replies.items ≡ []) × (answer.old.closing.keys ≡ []) }
+        requires lines { self.old.lines < 2 ^ 63 }
+        requires messages { self.old.messages < 2 ^ 63 }
+        requires dropped { self.old.dropped < 2 ^ 63 }
+        ensures settings { self.new.settings ≡ self.old.settings }
+        ensures lines { OnOk result (self.new.lines ≡ self.old.lines) }
+        ensures streams { OnOk result (self.new.streams ≤ self.old.streams + 1) }
+        ensures numbers { OnOk result (self.new.session.session.last < 2 ^ 32) }
+        ensures arrived { OnOk result (self.new.session.session.arrived ≡ self.new.messages) }
+        ensures messages { OnOk result (self.new.messages ≤ self.old.messages + weight entry) }
+        ensures dropped { OnOk result (self.new.dropped ≤ self.old.dropped + weight entry) }
+        ensures step { OnOk result ((s : Settings) (rs : List Record) → Tracks s rs self.old → IsOrdered nat_cmp answer.new.closing → Brought s rs entry self.new answer.new) }
+        ensures cause { IfErr result (λ e. (s : Settings) (rs : List Record) → Tracks s rs self.old → WhyNot s rs entry e) }
+    {
+        if self.closed {
+            return Err(StepFault::Closed);
+        }
         match entry {
-            Record::Batch { to, frames } => match frames.as_slice() {
-                [frame] => {
-                    self.batch(to, frame.bytes.as_slice(), text)?;
-                    Ok(())
-                }
-                _ => unreachable!(),
-            },
+            Record::Batch { to, frames } => self.batch(to, frames.as_slice(), answer),
             Record::Recv { source, bytes } => {
-                self.recv(source, bytes.as_slice(), text)?;
+                self.recv(source, bytes, answer)?;
                 Ok(())
             }
-            Record::Overrun | Record::Close => unreachable!(),
+            Record::Overrun => {
+                self.arrive(overrun(self.alloc), SocketAddr::new(0, 0), answer)?;
+                Ok(())
+            }
+            Record::Close => {
+                self.closed = true;
+                let open_streams = mem::replace(&mut self.open_streams, BTreeMap::new(self.alloc));
+                close_all(open_streams, &mut answer.text)?;
+                Ok(())
+            }
         }
     }
 
-    /// What there is to tell of the records so far.
+    // Takes a record; its text.
+    fn take(&mut self, entry: Record) -> Result<Vec<u8>, StepFault>
+        requires entry { IsEntry entry }
+        requires counted { Counted self.old }
+        requires lines { self.old.lines < 2 ^ 63 }
+        requires messages { self.old.messages < 2 ^ 63 }
+        requires dropped { self.old.dropped < 2 ^ 63 }
+        ensures settings { self.new.settings ≡ self.old.settings }
+        ensures counted { OnOk result (Counted self.new) }
+        ensures grows { OnOk result (Grows entry self.old self.new) }
+        ensures step { IfOk result (λ text. (s : Settings) (rs : List Record) → Tracks s rs self.old → Tracks s (rs ++ entry ∷ []) self.new × (text.items ≡ text_behind s rs entry)) }
+        ensures cause { IfErr result (λ e. (s : Settings) (rs : List Record) → Tracks s rs self.old → WhyNot s rs entry e) }
+    {
+        let mut answer = Answer::new(self.alloc);
+        self.bring(entry, &mut answer)?;
+        self.lines += 1;
+        Ok(answer.into_text()?)
+    }
+
+    /// Takes a record and appends its text to a sink. Closed, SequenceExhausted and Unfit come exactly where the record
+    /// isn't taken behind those before it, with the place that is handed in, and then nothing is written. WriteFault
+    /// comes only where the sink's count of faults rose in this call; after it or NoMemory the sink has gained some front
+    /// of the record's text. After any fault the runner takes no more.
+    pub fn step<K: Sink>(&mut self, at: u64, line: Record, out: &mut K) -> Result<(), RunFault>
+        requires entry { IsEntry line }
+        requires counted { Counted self.old }
+        requires lines { self.old.lines < 2 ^ 63 }
+        requires messages { self.old.messages < 2 ^ 63 }
+        requires dropped { self.old.dropped < 2 ^ 63 }
+        ensures settings { self.new.settings ≡ self.old.settings }
+        ensures counted { OnOk result (Counted self.new) }
+        ensures grows { OnOk result (Grows line self.old self.new) }
+        ensures ok { OnOk result ((s : Settings) (rs : List Record) → Tracks s rs self.old
+            → Tracks s (rs ++ line ∷ []) self.new × (K.written out.new ≡ with_back (K.written out.old) (text_behind s rs line))) }
+        ensures fails { IfErr result (λ e. (s : Settings) (rs : List Record) → Tracks s rs self.old → Fails s rs line at (K.written out.old) (K.written out.new) e) }
+        ensures only { IfErr result IsStepping }
+        ensures write_cause { result ≡ Err RunFault.WriteFault → HasRisen (K.faults out.old) (K.faults out.new) }
+        ensures later { K.faults out.old ≤ K.faults out.new }
+    {
+        match self.take(line) {
+            Ok(text) => write_all(out, text.as_slice()),
+            Err(fault) => Err(fault.at(at)),
+        }
+    }
+
+    /// What there is to tell of the records that were taken.
     pub fn report(&self) -> Report
         ensures { (s : Settings) (rs : List Record) → Tracks s rs self.now → result ≡ report_of format s rs }
     {
         Report {
             lines: self.lines,
             messages: self.messages,
-            dropped: 0,
-            still_open: self.session.pending_len() as u64,
+            dropped: self.dropped,
+            still_open: self.open_streams.len() as u64,
             in_step: false,
         }
     }

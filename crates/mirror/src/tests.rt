@@ -2,6 +2,8 @@
 // asks for an acknowledgement), an RTM_NEWROUTE reply, and the kernel's NLMSG_DONE and NLMSG_ERROR answers.
 ghost use Rattle.std.specs.Prelude.{◌≤◌};
 
+mod sessions;
+
 use crate::{
     MemorySink, MemorySource, Read, Report, RunFault, Settings, Sink, Source, StdSink, StdSource,
     Wrote, cli, run,
@@ -72,7 +74,6 @@ fn transcripts_are_told(rt: HostRuntime) -> Result<(), Fail> {
         (DUMP, 0, DUMP_TOLD),
         (ACKNOWLEDGED, 0, ACKNOWLEDGED_TOLD),
         (WRONG_PORT, 0, WRONG_PORT_TOLD),
-        ("batch 0 0\n", 2, ""),
         (UPPER_CASE, 2, ""),
         (UNFINISHED, 2, SENT),
     ];

@@ -3,8 +3,8 @@ ghost use Rattle.std.specs.Prelude.{◌≡◌, ◌∷◌, [], ◌++◌, true, co
 ghost use Rattle.std.specs.List.{list_all};
 ghost use Rattle.nl_core.specs.Frames.{message_text, message_fits, payload_text, payload_fits};
 ghost use Rattle.session_model.specs.Lines.{hex_word};
-ghost use Rattle.session_model.specs.SessionText.{is_kept_back, reply_text};
-ghost use Rattle.session_steps.specs.After.{response_text, incoming_text, outgoing_text, closed_by};
+ghost use Rattle.session_model.specs.SessionText.{closed_line, is_kept_back};
+ghost use Rattle.session_steps.specs.After.{response_text, incoming_text, outgoing_text};
 ghost use Rattle.mirror.specs.Format.{format};
 ghost use Rattle.mirror.specs.Words.{spelled, Tells};
 
@@ -79,14 +79,14 @@ fn is_kept_back(settings: &Settings, payload: &NetlinkPayload<Message>) -> bool
     }
 }
 
-// Adds the line of a reply, unless it is kept back.
-fn put_reply(
+/// Adds the line of a reply, unless it is kept back.
+pub fn put_reply(
     alloc: Global,
     settings: &Settings,
     text: &mut Vec<u8>,
     response: &Response<Message, u64>,
 ) -> Result<(), NoMemory>
-    ensures { OnOk result (text.new.items ≡ text.old.items ++ reply_text format settings.now response.now.arrival response.now.metadata response.now.message) }
+    ensures { OnOk result (text.new.items ≡ text.old.items ++ response_text format settings.now response.now) }
 {
     if is_kept_back(settings, &response.message.payload) {
         return Ok(());
@@ -108,28 +108,11 @@ fn put_reply(
     )
 }
 
-// Adds the line of a stream that closes, if it does.
-fn put_closed(text: &mut Vec<u8>, done: bool, stream: u64) -> Result<(), NoMemory>
-    ensures { OnOk result (text.new.items ≡ text.old.items ++ closed_by done stream) }
+/// Adds the line of a stream that closes.
+pub fn put_closed(text: &mut Vec<u8>, stream: u64) -> Result<(), NoMemory>
+    ensures { OnOk result (text.new.items ≡ text.old.items ++ closed_line stream) }
 {
-    if done {
-        return put_line(text, b"closed".as_slice(), &[Word::Number(stream)]);
-    }
-    Ok(())
-}
-
-/// Adds the line of a reply, unless it is kept back, and that of its stream, if it closes.
-pub fn put_response(
-    alloc: Global,
-    settings: &Settings,
-    text: &mut Vec<u8>,
-    response: &Response<Message, u64>,
-) -> Result<(), NoMemory>
-    ensures { OnOk result (text.new.items ≡ text.old.items ++ response_text format settings.now response.now) }
-{
-    put_reply(alloc, settings, text, response)?;
-    put_closed(text, response.done, response.metadata)?;
-    Ok(())
+    put_line(text, b"closed".as_slice(), &[Word::Number(stream)])
 }
 
 // Adds the frame of a message, if it fits.
@@ -159,7 +142,7 @@ fn datagram_bytes(alloc: Global, outgoing: &Outgoing<Message>) -> Result<Vec<u8>
     Ok(bytes)
 }
 
-/// Adds the line of a datagram whose messages fit.
+/// Adds the line of a datagram whose messages fit, if it has any.
 pub fn put_outgoing(
     alloc: Global,
     text: &mut Vec<u8>,
@@ -167,6 +150,9 @@ pub fn put_outgoing(
 ) -> Result<(), NoMemory>
     ensures { OnOk result (list_all (message_fits format.text format.fits) outgoing.now.messages ≡ true → text.new.items ≡ text.old.items ++ outgoing_text format outgoing.now) }
 {
+    if outgoing.messages.is_empty() {
+        return Ok(());
+    }
     let bytes = datagram_bytes(alloc, outgoing)?;
     put_line(
         text,

@@ -92,7 +92,7 @@ begins_not bytes h = by (nat_le 16 (length bytes)) (nat_le 16 (length_at bytes))
     by true true true x y z (inr (inl e)) = grind (arith, nat_tests)
     by true true true x y z (inr (inr e)) = grind (arith, nat_tests)
 
-front_frame : (bytes : List ℕ) → begins bytes ≡ true → IsFrame (take (length_at bytes) bytes)
+pub front_frame : (bytes : List ℕ) → begins bytes ≡ true → IsFrame (take (length_at bytes) bytes)
 front_frame bytes is =
     let b = begun bytes is in
     let n = length-take-le (length_at bytes) bytes b.1 in

@@ -1,10 +1,5 @@
 pub mod Places
 pub mod Arrived
-pub mod Closing
-pub mod ArrivalText
-pub mod Distinct
-pub mod Sent
-pub mod Open
 pub mod Cuts
 pub mod Fronts
 pub mod Taking

@@ -29,14 +29,24 @@ returns-in_err-push-clause-fault c =
 pub loop-byte-preserved : goal.loop-byte-preserved
 loop-byte-preserved c = elim c.if-byte-eq10.branch [
   | then-byte-eq10+in_ok-end_line w ↦ rw w.self-is (record {
-    steady = record { counted = w.in_ok-end_line.ensures.counted; lines = omega (arith, w.in_ok-end_line.ensures.lines, w.end_line.ensures.taken, c.loop-byte.invariant.steady.lines); line = omega (arith, w.in_ok-end_line.ensures.line.1) };
+    steady = record {
+      counted = w.in_ok-end_line.ensures.counted;
+      lines = omega (arith, w.in_ok-end_line.ensures.lines, w.end_line.ensures.taken, w.in_ok-end_line.ensures.line.1);
+      messages = omega (arith, w.in_ok-end_line.ensures.messages, w.end_line.ensures.taken, w.in_ok-end_line.ensures.line.1);
+      dropped = omega (arith, w.in_ok-end_line.ensures.dropped, w.end_line.ensures.taken, w.in_ok-end_line.ensures.line.1);
+    };
     taken = omega (arith, w.end_line.ensures.taken, c.loop-byte.invariant.taken);
     limit = omega (arith, w.end_line.ensures.taken);
     settings = w.end_line.ensures.settings ∙ c.loop-byte.invariant.settings;
     fed = fed_line _ _ _ _ _ _ _ _ _ _ _ c.loop-byte.invariant.fed c.loop-byte-test.true w.if-byte-eq10.true w.in_ok-end_line.ensures.step w.in_ok-end_line.ensures.line.0;
   })
   | else-byte-eq10+in_ok-push w ↦ rw w.self-is (record {
-    steady = record { counted = c.loop-byte.invariant.steady.counted; lines = omega (arith, c.loop-byte.invariant.steady.lines); line = omega (arith, w.in_ok-push.ensures.len, c.loop-byte.invariant.steady.line) };
+    steady = record {
+      counted = c.loop-byte.invariant.steady.counted;
+      lines = omega (arith, w.in_ok-push.ensures.len, c.loop-byte.invariant.steady.lines);
+      messages = omega (arith, w.in_ok-push.ensures.len, c.loop-byte.invariant.steady.messages);
+      dropped = omega (arith, w.in_ok-push.ensures.len, c.loop-byte.invariant.steady.dropped);
+    };
     taken = omega (arith, c.loop-byte.invariant.taken);
     limit = omega arith;
     settings = c.loop-byte.invariant.settings;

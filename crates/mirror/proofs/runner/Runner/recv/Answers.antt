@@ -1,20 +1,57 @@
-use Rattle.std.proofs.Common.{◌+◌, ◌∙◌, ap}
-use Rattle.mirror.proofs.StepLaws.{recv_step, arrived_counts, arrived_last}
+use Rattle.std.proofs.Common.{[], refl, ◌∙◌, ap, arith, length}
+use Rattle.session_model.specs.Events.{datagram_events}
+use Rattle.mirror.specs.Format.{format}
+use Rattle.mirror.proofs.StepLaws.{keeps_all, more_events, no_more_events}
 use Rattle.mirror.proofs.runner.Runner.recv.Goals as goal
 
-pub returns-clause-arrived : goal.returns-clause-arrived
-returns-clause-arrived c =
-    c.take_response.ensures.arrived ∙ c.take_incoming.ensures.arrived ∙ ap (λ s. s.arrived) c.handle_message.ensures.after
-    ∙ arrived_counts (record { message = c.in_ok-message.message; source = c.args.source }) c.reserve.new.self.session
-    ∙ ap (λ s. s.arrived + 1) c.reserve.ensures.same ∙ ap (λ n. n + 1) c.requires.arrived
+pub loop-reader-init : goal.loop-reader-init
+loop-reader-init c =
+    let same = c.from-reader.ensures ∙ c.into_vec.ensures in
+    let count = ap length same in record {
+      keeps = record { settings = refl; last = refl; streams = refl; lines = refl; closed = refl };
+      arrived = c.requires.arrived;
+      messages = omega (arith, count);
+      dropped = omega (arith, count);
+      amid = λ s rs h. ([], ap (datagram_events format c.args.source) same, h);
+    }
+
+pub take_next-requires-clause-room : goal.take_next-requires-clause-room
+take_next-requires-clause-room c =
+    let m = c.loop-reader.invariant.messages in
+    let d = c.loop-reader.invariant.dropped in
+    (omega (arith, m, c.requires.room.0), omega (arith, d, c.requires.room.1))
+
+pub take_next-requires-clause-arrived : goal.take_next-requires-clause-arrived
+take_next-requires-clause-arrived c = c.loop-reader.invariant.arrived
+
+pub loop-reader-smaller : goal.loop-reader-smaller
+loop-reader-smaller c = rw c.if-branch.true at c.in_ok-take_next.ensures.shorter
+
+pub loop-reader-preserved : goal.loop-reader-preserved
+loop-reader-preserved c =
+    let i = c.loop-reader.invariant in
+    let e = c.in_ok-take_next.ensures in
+    let less = rw c.if-branch.true at e.shorter in
+    let m = e.count.0 in
+    let d = e.count.1 in record {
+      keeps = keeps_all _ _ _ i.keeps e.keeps;
+      arrived = e.arrived;
+      messages = omega (arith, i.messages, m, less);
+      dropped = omega (arith, i.dropped, d, less);
+      amid = λ s rs h. more_events s rs c.args.source _ _ c.args.bytes _ _ _ _ (i.amid s rs h) ((rw c.if-branch.true at e.step) s rs);
+    }
+
+pub returns-clause-keeps : goal.returns-clause-keeps
+returns-clause-keeps c = keeps_all _ _ _ c.loop-reader.invariant.keeps c.in_ok-take_next.ensures.keeps
+
+pub returns-clause-count : goal.returns-clause-count
+returns-clause-count c =
+    let end = rw c.if-branch.false at c.in_ok-take_next.ensures.end in
+    let m = ap (λ r. r.messages) end.1 in
+    let d = ap (λ r. r.dropped) end.1 in
+    (omega (arith, c.loop-reader.invariant.messages, m), omega (arith, c.loop-reader.invariant.dropped, d))
 
 pub returns-clause-step : goal.returns-clause-step
 returns-clause-step c s rs h =
-    recv_step s _ rs c.args.source c.args.bytes.now c.in_ok-message.message c.reserve.new.self.session _ _ _ _ _ _ h.each c.requires.frame c.in_ok-message.ensures
-    (c.reserve.ensures.same ∙ h.session) c.handle_message.ensures.after c.in_ok-take_incoming.ensures.takes h.settings c.in_ok-take_response.ensures.takes
-
-pub returns-clause-numbers : goal.returns-clause-numbers
-returns-clause-numbers c =
-    c.take_response.ensures.last ∙ c.take_incoming.ensures.last ∙ ap (λ s. s.last) c.handle_message.ensures.after
-    ∙ arrived_last (record { message = c.in_ok-message.message; source = c.args.source }) c.reserve.new.self.session
-    ∙ ap (λ s. s.last) c.reserve.ensures.same
+    let end = rw c.if-branch.false at c.in_ok-take_next.ensures.end in
+    rw (end.1, end.2) (no_more_events s rs c.args.source c.loop-reader.reader.items c.args.bytes _ _ end.0 (c.loop-reader.invariant.amid s rs h))

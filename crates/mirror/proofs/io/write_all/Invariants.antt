@@ -1,6 +1,6 @@
 use Rattle.std.proofs.Common.{◌≤◌, length}
-use Rattle.mirror.specs.Outcome.{Gained}
-use Rattle.mirror.proofs.progress.write_all.Given as goal
+use Rattle.mirror.specs.Io.{Gained}
+use Rattle.mirror.proofs.io.write_all.Given as goal
 
 -- the sink gained the front of the text, and the rest waits
 abbrev pub invariant-loop-rest : goal.invariant-loop-rest

@@ -1,6 +1,6 @@
 use Rattle.std.proofs.Common.{arith}
 use Rattle.mirror.proofs.Ends.{gained_took}
-use Rattle.mirror.proofs.progress.write_all.Goals as goal
+use Rattle.mirror.proofs.io.write_all.Goals as goal
 
 pub loop-rest-preserved : goal.loop-rest-preserved
 loop-rest-preserved g c = record {
