@@ -1,15 +1,16 @@
 //! A finite map of prefixes.
 
-ghost use Rattle.std.specs.Prelude.{◌≡◌, ◌↔◌, ◌+◌, ◌-◌, ◌^◌, ◌<◌, ◌≤◌, [], ⊤, length, min, IsTrue, IsSome, IfOk, IfErr, IfSome, OnOk, OnErr};
+ghost use Rattle.std.specs.Prelude.{◌≡◌, ◌↔◌, ◌+◌, ◌-◌, ◌^◌, ◌<◌, ◌≤◌, [], ⊤, length, min, IsTrue, IsSome, IfOk, IfErr, IfNone, IfSome, OnOk, OnErr, OnSome};
 ghost use Rattle.std.specs.Option.{option_copied};
 ghost use Rattle.trie_map.specs.Walking.{CanWalk, IsFrugalWalk, ToCome};
+ghost use Rattle.trie_model.specs.Inside.{LiesIn, SomeIn};
 ghost use Rattle.trie_model.specs.Maps.{LongestMatch, inserted, missing, present, removed, value_at};
 ghost use Rattle.trie_model.specs.Nets.{Net};
 ghost use Rattle.trie_model.specs.Walks.{Within};
 
 use crate::node::{Node, Steps, empty, find, longest, put, take};
 use crate::prefix::Place;
-use crate::refs::{TrieRef, root_view};
+use crate::refs::{TrieRef, root_view, view_inside};
 use crate::view::{AsView, TrieView};
 use crate::walk::ViewIter;
 use nl_core::NoMemory;
@@ -129,6 +130,19 @@ impl<P: Place, T> PrefixMap<P, T> {
         self.view_counted(&mut Steps::start())
     }
 
+    /// The view of the entries that lie in a prefix, that of the prefix itself among them. None exactly
+    /// where no entry lies in it. It takes no memory.
+    pub fn view_at<'a>(&'a self, prefix: &P) -> Option<TrieRef<'a, P, T>>
+        requires { (P.net prefix.now).len ≤ P.Number.width }
+        ensures found { OnSome result (SomeIn P.Number.width (P.net prefix.now) self.now) }
+        ensures none { IfNone result (¬ SomeIn P.Number.width (P.net prefix.now) self.now) }
+        ensures usable { IfSome result (λ view. ⟦<TrieRef<'a, P, T> as TrieView<'a>>⟧.valid view) }
+        ensures place { IfSome result (λ view. (⟦<TrieRef<'a, P, T> as TrieView<'a>>⟧.told view).place ≡ P.net prefix.now) }
+        ensures pairs { IfSome result (λ view. (n : Net) (x : T) → (⟦<TrieRef<'a, P, T> as TrieView<'a>>⟧.told view).at n x ↔ LiesIn P.Number.width (P.net prefix.now) self.now n x) }
+    {
+        view_inside(&self.root, prefix)
+    }
+
     /// The walk over the entries, in the order of their prefixes.
     pub fn iter<'a>(&'a self) -> Result<ViewIter<TrieRef<'a, P, T>>, NoMemory>
         ensures usable { IfOk result (λ walk. CanWalk ⟦<TrieRef<'a, P, T> as TrieView<'a>>⟧.valid ⟦<TrieRef<'a, P, T> as TrieView<'a>>⟧.told P.Number.width walk) }
@@ -187,10 +201,9 @@ impl<'a, P: Place, T> AsView<'a> for &'a PrefixMap<P, T> {
 
     ghost can_view = { λ m. ⊤ };
 
-    fn view(self) -> TrieRef<'a, P, T>
-        ensures usable { ⟦<TrieRef<'a, P, T> as TrieView<'a>>⟧.valid result }
-        ensures pairs { (n : Net) (x : T) → (⟦<TrieRef<'a, P, T> as TrieView<'a>>⟧.told result).at n x ↔ Within self.entry.now n x }
-    {
+    ghost stands_for = { λ view m. ((⟦<TrieRef<'a, P, T> as TrieView<'a>>⟧.told view).place ≡ record { bits = 0; len = 0 }) × ((n : Net) (x : T) → (⟦<TrieRef<'a, P, T> as TrieView<'a>>⟧.told view).at n x ↔ Within m.now n x) };
+
+    fn view(self) -> TrieRef<'a, P, T> {
         self.view_counted(&mut Steps::start())
     }
 }

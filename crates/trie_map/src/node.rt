@@ -14,7 +14,7 @@ ghost use Rattle.trie_model.specs.Tries.{slot_of, Good, Full};
 use crate::masks::child_bit;
 use crate::prefix::Word;
 pub use grow::put;
-pub use look::{find, longest};
+pub use look::{find, longest, reach};
 pub use shrink::take;
 use std::alloc::Global;
 use std::marker::{Model, PhantomData};

@@ -2,14 +2,15 @@
 
 ghost use Rattle.trie_map.specs.Forms.{node_form};
 ghost use Rattle.trie_model.specs.Maps.{map_of, pairs};
+ghost use Rattle.trie_model.specs.Inside.{LiesIn, SomeIn};
 ghost use Rattle.trie_model.specs.Nets.{Net};
 ghost use Rattle.trie_model.specs.Walks.{Within};
-ghost use Rattle.trie_model.specs.Tries.{Cleared, Good, RefOk, ref_told};
+ghost use Rattle.trie_model.specs.Tries.{Cleared, Full, Good, RefOk, ref_told};
 ghost use Rattle.trie_model.proofs.TrieLaws.{ref_laws};
-ghost use Rattle.std.specs.Prelude.{◌≡◌, ◌↔◌, ℕ, ◌+◌, ◌-◌, ◌^◌, ◌<◌, min};
+ghost use Rattle.std.specs.Prelude.{◌≡◌, ◌↔◌, ℕ, ◌+◌, ◌-◌, ◌^◌, ◌<◌, ◌≤◌, min, IfNone, IfSome, OnSome};
 
 use crate::masks::{child_cover_mask, data_cover_mask};
-use crate::node::{Node, Steps, Visited, visit};
+use crate::node::{Node, Steps, Visited, reach, visit};
 use crate::prefix::{Place, Word};
 use crate::view::{AsView, CloneView, TrieView};
 use nl_core::NoMemory;
@@ -54,6 +55,41 @@ pub(crate) fn root_view<'a, P: Place, T, L>(
         node: root,
         of: PhantomData,
     }
+}
+
+/// The view of what lies in a prefix of a whole trie, if anything does.
+pub(crate) fn view_inside<'a, P: Place, T>(
+    node: &'a Node<T>,
+    prefix: &P,
+) -> Option<TrieRef<'a, P, T>>
+    requires good { (k : ℕ) → Good node_form P.Number.width k 0 node.now }
+    requires full { (k : ℕ) → Full node_form k node.now }
+    requires len { (P.net prefix.now).len ≤ P.Number.width }
+    ensures found { OnSome result (SomeIn P.Number.width (P.net prefix.now) (pairs P.Number.width (map_of node_form P.Number.width node.now))) }
+    ensures none { IfNone result (¬ SomeIn P.Number.width (P.net prefix.now) (pairs P.Number.width (map_of node_form P.Number.width node.now))) }
+    ensures usable { IfSome result (λ view. ⟦<TrieRef<'a, P, T> as TrieView<'a>>⟧.valid view) }
+    ensures place { IfSome result (λ view. (⟦<TrieRef<'a, P, T> as TrieView<'a>>⟧.told view).place ≡ P.net prefix.now) }
+    ensures pairs { IfSome result (λ view. (n : Net) (x : T) → (⟦<TrieRef<'a, P, T> as TrieView<'a>>⟧.told view).at n x ↔ LiesIn P.Number.width (P.net prefix.now) (pairs P.Number.width (map_of node_form P.Number.width node.now)) n x) }
+{
+    let key = prefix.number();
+    let len = prefix.length() as u32;
+    let Some(node) = reach(node, 0, key, len, &mut Steps::start()) else {
+        return None;
+    };
+    let depth = len / 5 * 5;
+    let data_bitmap = node.data_bitmap() & data_cover_mask(depth, key, len);
+    let child_bitmap = node.child_bitmap() & child_cover_mask(depth, key, len);
+    if data_bitmap == 0 && child_bitmap == 0 {
+        return None;
+    }
+    Some(TrieRef {
+        node,
+        key,
+        len,
+        data_bitmap,
+        child_bitmap,
+        of: PhantomData,
+    })
 }
 
 impl<'a, P: Place, T> TrieView<'a> for TrieRef<'a, P, T> {
@@ -145,6 +181,8 @@ impl<'a, P: Place, T> AsView<'a> for TrieRef<'a, P, T> {
     type View = TrieRef<'a, P, T>;
 
     ghost can_view = { λ v. ⟦<TrieRef<'a, P, T> as TrieView<'a>>⟧.valid v };
+
+    ghost stands_for = { λ view v. view ≡ v };
 
     fn view(self) -> TrieRef<'a, P, T> {
         self

@@ -1,7 +1,8 @@
 //! A finite set of prefixes.
 
-ghost use Rattle.std.specs.Prelude.{◌≡◌, ◌↔◌, ◌+◌, ◌-◌, ◌^◌, ◌≤◌, [], ⊤, length, min, IsTrue, IsSome, IsNone, IfOk, IfErr, OnOk, OnErr};
+ghost use Rattle.std.specs.Prelude.{◌≡◌, ◌↔◌, ◌+◌, ◌-◌, ◌^◌, ◌≤◌, [], ⊤, length, min, IsTrue, IsSome, IsNone, IfOk, IfErr, IfNone, IfSome, OnOk, OnErr, OnSome};
 ghost use Rattle.trie_map.specs.Walking.{CanWalk, IsFrugalWalk, ToCome};
+ghost use Rattle.trie_model.specs.Inside.{LiesIn, SomeIn};
 ghost use Rattle.trie_model.specs.Maps.{inserted, removed, value_at};
 ghost use Rattle.trie_model.specs.Nets.{Net};
 ghost use Rattle.trie_model.specs.Walks.{Within};
@@ -83,6 +84,19 @@ impl<P: Place> PrefixSet<P> {
         self.map.view()
     }
 
+    /// The view of the prefixes that lie in a prefix, the prefix itself among them. None exactly
+    /// where no prefix lies in it. It takes no memory.
+    pub fn view_at<'a>(&'a self, prefix: &P) -> Option<TrieRef<'a, P, ()>>
+        requires { (P.net prefix.now).len ≤ P.Number.width }
+        ensures found { OnSome result (SomeIn P.Number.width (P.net prefix.now) self.now) }
+        ensures none { IfNone result (¬ SomeIn P.Number.width (P.net prefix.now) self.now) }
+        ensures usable { IfSome result (λ view. ⟦<TrieRef<'a, P, ()> as TrieView<'a>>⟧.valid view) }
+        ensures place { IfSome result (λ view. (⟦<TrieRef<'a, P, ()> as TrieView<'a>>⟧.told view).place ≡ P.net prefix.now) }
+        ensures pairs { IfSome result (λ view. (n : Net) (x : Unit {0}) → (⟦<TrieRef<'a, P, ()> as TrieView<'a>>⟧.told view).at n x ↔ LiesIn P.Number.width (P.net prefix.now) self.now n x) }
+    {
+        self.map.view_at(prefix)
+    }
+
     /// The walk over the prefixes, in order.
     pub fn iter<'a>(&'a self) -> Result<ViewIter<TrieRef<'a, P, ()>>, NoMemory>
         ensures usable { IfOk result (λ walk. CanWalk ⟦<TrieRef<'a, P, ()> as TrieView<'a>>⟧.valid ⟦<TrieRef<'a, P, ()> as TrieView<'a>>⟧.told P.Number.width walk) }
@@ -121,10 +135,9 @@ impl<'a, P: Place> AsView<'a> for &'a PrefixSet<P> {
 
     ghost can_view = { λ s. ⊤ };
 
-    fn view(self) -> TrieRef<'a, P, ()>
-        ensures usable { ⟦<TrieRef<'a, P, ()> as TrieView<'a>>⟧.valid result }
-        ensures pairs { (n : Net) (x : Unit {0}) → (⟦<TrieRef<'a, P, ()> as TrieView<'a>>⟧.told result).at n x ↔ Within self.entry.now n x }
-    {
+    ghost stands_for = { λ view s. ((⟦<TrieRef<'a, P, ()> as TrieView<'a>>⟧.told view).place ≡ record { bits = 0; len = 0 }) × ((n : Net) (x : Unit {0}) → (⟦<TrieRef<'a, P, ()> as TrieView<'a>>⟧.told view).at n x ↔ Within s.now n x) };
+
+    fn view(self) -> TrieRef<'a, P, ()> {
         self.view_counted(&mut Steps::start())
     }
 }

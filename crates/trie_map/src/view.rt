@@ -113,8 +113,12 @@ pub trait AsView<'a>: Sized {
     /// Whether it may be seen.
     ghost can_view: { Self → Type 0 };
 
+    /// Whether a view stands for it: at its place, with exactly its pairs.
+    ghost stands_for: { Self.View → Self → Type 0 };
+
     /// The view.
     fn view(self) -> Self::View
         requires { can_view self }
-        ensures { Self.View.valid result };
+        ensures usable { Self.View.valid result }
+        ensures stands { stands_for result self };
 }

@@ -4,7 +4,7 @@ use Rattle.std.specs.Prelude.{◌⊎◌, ◌↔◌}
 use Rattle.std.proofs.lemmas.Nat.{div-mul-add, div-add-mod', mod_below, mul-add-lt}
 use Rattle.std.proofs.Math.Nat.{mul_comm}
 use Rattle.std.proofs.lemmas.Bool.{le-leb, eq-eqb}
-use Rattle.trie_model.proofs.PutLaws.{less_or}
+use Rattle.trie_model.proofs.SlotLaws.{less_or}
 use Rattle.trie_model.specs.Nets.{Net, IsNet, masked, covers}
 use Rattle.trie_model.specs.Heap.{order_key, ltb}
 use Rattle.trie_model.specs.Views.{same_net}
@@ -12,7 +12,8 @@ use Rattle.trie_model.specs.Walks.{Within, Ascends, IsListOf}
 use Rattle.trie_model.specs.Maps.{with_entry, without_entry, no_entries, Entry, net_at, pair_if, pairs_under, pairs, value_at, put_pair, removed, inserted}
 use Rattle.trie_model.proofs.Places.{elim-false, both_hold, covers_len, covers_bits}
 use Rattle.trie_model.proofs.HeapLaws.{lt-ltb, ltb-lt}
-use Rattle.trie_model.proofs.TrieLaws.{same_net_is, same_back, same_some}
+use Rattle.trie_model.proofs.TrieLaws.{same_net_is, same_back}
+use Rattle.trie_model.proofs.NodeLaws.{same_some}
 use Rattle.trie_model.proofs.WalkLaws.{either}
 use Rattle.trie_model.proofs.MapLaws.{nets_or, by_somes}
 

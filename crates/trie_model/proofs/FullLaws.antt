@@ -7,8 +7,9 @@ use Rattle.std.proofs.lemmas.Nat.Bits.{bit_at-zero, bit_at-lt, same_from_bits_be
 use Rattle.trie_model.specs.Nets.{Net, IsNet}
 use Rattle.trie_model.specs.Tries.{slot_of, Form, Full, FullBut}
 use Rattle.trie_model.specs.Puts.{HoldsAt, PutAt, TakenAt, At, PutIn}
-use Rattle.trie_model.proofs.TrieLaws.{same_some}
-use Rattle.trie_model.proofs.PutLaws.{less_or, same_or, at_item, at_kid}
+use Rattle.trie_model.proofs.NodeLaws.{same_some}
+use Rattle.trie_model.proofs.SlotLaws.{less_or, same_or}
+use Rattle.trie_model.proofs.PutLaws.{at_item, at_kid}
 
 -- a node without children
 pub full_leaf : {N X : Type 0} (f : Form N X) (node : N) → f.kids node ≡ 0 → (k : ℕ) → Full f k node

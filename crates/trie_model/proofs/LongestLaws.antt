@@ -15,9 +15,10 @@ use Rattle.trie_model.specs.Longest.{LongestIn}
 use Rattle.trie_model.proofs.Places.{both_hold, covers_len, covers_bits, masked_less, bit_below, level_le, times_cancel}
 use Rattle.trie_model.proofs.HeapLaws.{bit_back, under2, if_then, by_if}
 use Rattle.trie_model.proofs.MaskLaws.{data_bit_net}
-use Rattle.trie_model.proofs.TrieLaws.{no_bit}
+use Rattle.trie_model.proofs.RootLaws.{no_bit}
 use Rattle.trie_model.proofs.WalkLaws.{short_small}
-use Rattle.trie_model.proofs.PutLaws.{less_or, at_item, item_at, kid_none, kid_was}
+use Rattle.trie_model.proofs.SlotLaws.{less_or}
+use Rattle.trie_model.proofs.PutLaws.{at_item, item_at, kid_none, kid_was}
 
 -- a later bit of a node is no shorter
 level_table : all_under 31 (λ a. all_under 31 (λ b. if_then (leb a b) (leb (level_of a) (level_of b)))) ≡ true
@@ -144,7 +145,7 @@ here_longest {N} {X} f w d n len mask j s node x ok m high held e =
 
 -- ---- the node and what lies below it
 
-toward_masked : (w d l n : ℕ) → d + 5 ≤ l → l ≤ w → bits_toward w d 5 (masked w n l) ≡ bits_toward w d 5 n
+pub toward_masked : (w d l n : ℕ) → d + 5 ≤ l → l ≤ w → bits_toward w d 5 (masked w n l) ≡ bits_toward w d 5 n
 toward_masked w d l n long end = ap (λ q. q % 32) (times_cancel _ _ (2 ^ (w - (d + 5))) (pow_pos (w - (d + 5))) (masked_less w l (d + 5) n end long))
 
 -- nothing lies below, so what the node has is the longest

@@ -15,9 +15,11 @@ use Rattle.trie_model.specs.Longest.{LongestIn}
 use Rattle.trie_model.proofs.Places.{and_left, and_right, both_hold, elim-false, covers_len, covers_bits}
 use Rattle.trie_model.proofs.HeapLaws.{lt-ltb, ltb-lt}
 use Rattle.trie_model.proofs.MaskLaws.{masked_net}
-use Rattle.trie_model.proofs.TrieLaws.{same_net_is, same_back, no_bit}
+use Rattle.trie_model.proofs.TrieLaws.{same_net_is, same_back}
+use Rattle.trie_model.proofs.RootLaws.{no_bit}
 use Rattle.trie_model.proofs.WalkLaws.{either}
-use Rattle.trie_model.proofs.PutLaws.{less_or, at_item, at_kid}
+use Rattle.trie_model.proofs.SlotLaws.{less_or}
+use Rattle.trie_model.proofs.PutLaws.{at_item, at_kid}
 
 -- ---- options
 

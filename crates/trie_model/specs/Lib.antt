@@ -1,4 +1,5 @@
 pub mod Heap
+pub mod Inside
 pub mod Longest
 pub mod Maps
 pub mod Nets

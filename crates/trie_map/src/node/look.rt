@@ -1,17 +1,18 @@
 //! Look-ups in a trie.
 
-ghost use Rattle.std.specs.Prelude.{◌≡◌, ℕ, ◌+◌, ◌<◌, ◌≤◌, min};
+ghost use Rattle.std.specs.Prelude.{◌≡◌, ℕ, ◌+◌, ◌-◌, ◌/◌, ◌<◌, ◌≤◌, min};
 ghost use Rattle.trie_map.specs.Forms.{node_form};
 ghost use Rattle.trie_model.specs.Nets.{Net, IsNet};
 ghost use Rattle.trie_model.specs.Puts.{Gets};
+ghost use Rattle.trie_model.specs.Inside.{Reaches};
 ghost use Rattle.trie_model.specs.Longest.{LongestIn};
-ghost use Rattle.trie_model.specs.Tries.{Good, NodeOk};
+ghost use Rattle.trie_model.specs.Tries.{Full, Good, NodeOk};
 
 use super::{Node, Steps, Visited, child_toward, visit};
 use crate::masks::{data_bit, data_lpm_mask, level};
 use crate::prefix::Word;
 
-/// The item of a prefix.
+/// The item of a prefix. It reads at most one node for each five bits on the way, and the last one.
 pub fn find<'a, W: Word, T, L>(
     node: &'a Node<T>,
     depth: u32,
@@ -22,7 +23,8 @@ pub fn find<'a, W: Word, T, L>(
     requires good { (k : ℕ) → Good node_form W.width k depth node.now }
     requires net { IsNet W.width (record { bits = W.number key; len = len }) }
     requires low { depth ≤ len }
-    ensures { Gets (λ r. r.now) node_form W.width depth (record { bits = W.number key; len = len }) node.now result }
+    ensures item { Gets (λ r. r.now) node_form W.width depth (record { bits = W.number key; len = len }) node.now result }
+    ensures cost { steps.new ≤ steps.old + ((len - depth) / 5 + 1) }
 {
     let here = visit(node, steps);
     if len - depth < 5 {
@@ -70,7 +72,8 @@ pub fn longest<'a, W: Word, T, L>(
     requires good { (k : ℕ) → Good node_form W.width k depth node.now }
     requires net { IsNet W.width (record { bits = W.number key; len = len }) }
     requires low { depth ≤ len }
-    ensures { LongestIn (λ r. r.0) (λ r. r.1.now) node_form W.width depth (W.number key) node.now depth len result }
+    ensures longest { LongestIn (λ r. r.0) (λ r. r.1.now) node_form W.width depth (W.number key) node.now depth len result }
+    ensures cost { steps.new ≤ steps.old + ((len - depth) / 5 + 1) }
 {
     let here = visit(node, steps);
     if len - depth < 5 {
@@ -84,4 +87,30 @@ pub fn longest<'a, W: Word, T, L>(
         };
     }
     longest_here(&here, depth, key, len)
+}
+
+/// The node that has a prefix's place, unless a node on the way there is missing.
+pub fn reach<'a, W: Word, T, L>(
+    node: &'a Node<T>,
+    depth: u32,
+    key: W,
+    len: u32,
+    steps: &mut Steps<L>,
+) -> Option<Visited<'a, T>>
+    requires good { (k : ℕ) → Good node_form W.width k depth node.now }
+    requires full { (k : ℕ) → Full node_form k node.now }
+    requires net { IsNet W.width (record { bits = W.number key; len = len }) }
+    requires low { depth ≤ len }
+    ensures node { Reaches (λ r. r.node.now) node_form W.width depth (record { bits = W.number key; len = len }) node.now result }
+    ensures cost { steps.new ≤ steps.old + ((len - depth) / 5 + 1) }
+{
+    let here = visit(node, steps);
+    if len - depth < 5 {
+        return Some(here);
+    }
+    let bit = child_toward(depth, key);
+    if here.child_bitmap() >> bit & 1 == 1 {
+        return reach(here.child(bit), depth + 5, key, len, steps);
+    }
+    None
 }

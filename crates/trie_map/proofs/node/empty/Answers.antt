@@ -1,5 +1,5 @@
 use Rattle.std.proofs.Common.{◌∙◌, ap}
-use Rattle.trie_model.proofs.TrieLaws.{good_empty}
+use Rattle.trie_model.proofs.RootLaws.{good_empty}
 use Rattle.trie_model.proofs.FullLaws.{full_leaf}
 use Rattle.trie_map.specs.Forms.{node_form}
 use Rattle.trie_map.specs.declared.node.Node.TheViews.{roll-Node, out-roll-Node}

@@ -1,5 +1,5 @@
 use Rattle.std.proofs.Common.{arith}
-use Rattle.trie_model.proofs.TrieLaws.{slot-lt}
+use Rattle.trie_model.proofs.NodeLaws.{slot-lt}
 use Rattle.trie_model.proofs.PutLaws.{held_at}
 use Rattle.trie_map.proofs.node.item_at.Goals as goal
 

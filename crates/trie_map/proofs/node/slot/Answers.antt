@@ -1,5 +1,5 @@
 use Rattle.std.proofs.lemmas.Nat.{pow_below}
-use Rattle.trie_model.proofs.TrieLaws.{slot_mask}
+use Rattle.trie_model.proofs.NodeLaws.{slot_mask}
 use Rattle.trie_map.proofs.node.slot.Goals as goal
 
 pub returns : goal.returns

@@ -1,7 +1,7 @@
 use Rattle.std.proofs.Common.{refl, ℕ, ap}
 use Rattle.trie_model.specs.Nets.{Net}
 use Rattle.trie_map.specs.Forms.{node_form}
-use Rattle.trie_model.proofs.TrieLaws.{root_ref}
+use Rattle.trie_model.proofs.RootLaws.{root_ref}
 use Rattle.trie_model.proofs.TrieMaps.{root_pairs, list_of}
 use Rattle.trie_map.proofs.refs.root_view.Goals as goal
 

@@ -1,9 +1,10 @@
 use Rattle.std.proofs.Common.{rules, arith, refl, ◌+◌, ◌≤◌, slice_set, Ok}
 use Rattle.std.specs.declared.alloc.AllocFailed.{AllocFailed}
-use Rattle.trie_model.proofs.TrieLaws.{good_here, good_child, slot-lt}
+use Rattle.trie_model.proofs.NodeLaws.{good_here, good_child, slot-lt}
 use Rattle.trie_model.proofs.FullLaws.{full_child, full_put, full_same, some_put, some_new}
 use Rattle.trie_map.specs.Forms.{node_form}
-use Rattle.trie_model.proofs.PutLaws.{test_on, test_off, same_keeps, same_good, held_at, put_over, kid_done_good, kid_result, kid_was, none_was, put_in}
+use Rattle.trie_model.proofs.PutLaws.{test_on, test_off, same_keeps, same_good, held_at, kid_done_good, kid_result, kid_was, none_was, put_in}
+use Rattle.trie_model.proofs.SlotLaws.{put_over}
 use Rattle.trie_map.specs.declared.node.Node.TheViews.{out-Node, the_lemmas}
 use Rattle.trie_map.proofs.node.grow.+put.Goals as goal
 

@@ -1,6 +1,6 @@
 use Rattle.std.proofs.Common.{rules, arith, subst, sym}
 use Rattle.trie_model.specs.Puts.{PutAt}
-use Rattle.trie_model.proofs.PutLaws.{slot_le, one_bit, put_new_at}
+use Rattle.trie_model.proofs.SlotLaws.{slot_le, one_bit, put_new_at}
 use Rattle.trie_map.proofs.node.grow.attach.Goals as goal
 use Rattle.trie_map.proofs.node.grow.attach.Goals.{in-Ok, in-Err}
 

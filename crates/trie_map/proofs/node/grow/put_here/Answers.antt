@@ -1,5 +1,5 @@
 use Rattle.std.proofs.Common.{rules, refl}
-use Rattle.trie_model.proofs.TrieLaws.{good_here}
+use Rattle.trie_model.proofs.NodeLaws.{good_here}
 use Rattle.trie_map.specs.Forms.{node_form}
 use Rattle.trie_model.proofs.PutLaws.{here_good, here_puts, here_was, here_none, test_off, same_keeps, same_good}
 use Rattle.trie_map.specs.declared.node.Node.TheViews.{the_lemmas}

@@ -2,7 +2,7 @@ use Rattle.std.proofs.Common.{rules, arith, ap, sym, subst, ◌∙◌, ◌+◌, 
 use Rattle.trie_map.specs.Forms.{node_form}
 use Rattle.std.specs.Int.{bit_at}
 use Rattle.trie_model.specs.Puts.{Gets}
-use Rattle.trie_model.proofs.TrieLaws.{good_here, good_child}
+use Rattle.trie_model.proofs.NodeLaws.{good_here, good_child}
 use Rattle.trie_model.proofs.PutLaws.{test_off, here_was, here_none, kid_none, kid_gets}
 use Rattle.trie_model.proofs.LongestLaws.{good_there}
 use Rattle.trie_map.proofs.node.look.+find.Goals as goal
@@ -16,14 +16,14 @@ child-requires-clause-compact g t c = (good_here node_form g.W.Word.width c.args
 pub find-requires : goal.find-requires
 find-requires g t c κs within = let kid_ok = good_child node_form g.W.Word.width c.args.depth c.visit-here.result.node.now (good_there node_form g.W.Word.width c.args.depth c.args.node.now c.visit-here.result.node.now c.visit-here.ensures.node c.requires.good) _ c.child.result.now c.child.ensures.1 in let long : c.args.depth + 5 ≤ c.args.len = omega (arith, c.if-len-depth-lt5.false) in search (rules, kid_ok, long)
 
-pub returns-then-data_bitmap-bit-eq1 : goal.returns-then-data_bitmap-bit-eq1
-returns-then-data_bitmap-bit-eq1 g t c = let high : c.args.len < c.args.depth + 5 = omega (arith, c.requires.low, c.if-len-depth-lt5.true) in subst (λ z. Gets {R = Bor g.row.T.Denot} (λ r. r.now) node_form g.W.Word.width c.args.depth (record { bits = g.W.Word.number c.args.key; len = c.args.len }) z (Some c.item.result)) c.visit-here.ensures.node (here_was node_form g.W.Word.width c.args.depth c.data_bit-bit.result (record { bits = g.W.Word.number c.args.key; len = c.args.len }) c.visit-here.result.node.now c.item.result.now c.requires.low high c.data_bit-bit.ensures.bit c.item.ensures)
+pub returns-then-data_bitmap-bit-eq1-clause-item : goal.returns-then-data_bitmap-bit-eq1-clause-item
+returns-then-data_bitmap-bit-eq1-clause-item g t c = let high : c.args.len < c.args.depth + 5 = omega (arith, c.requires.low, c.if-len-depth-lt5.true) in subst (λ z. Gets {R = Bor g.row.T.Denot} (λ r. r.now) node_form g.W.Word.width c.args.depth (record { bits = g.W.Word.number c.args.key; len = c.args.len }) z (Some c.item.result)) c.visit-here.ensures.node (here_was node_form g.W.Word.width c.args.depth c.data_bit-bit.result (record { bits = g.W.Word.number c.args.key; len = c.args.len }) c.visit-here.result.node.now c.item.result.now c.requires.low high c.data_bit-bit.ensures.bit c.item.ensures)
 
-pub returns-then-len-depth-lt5 : goal.returns-then-len-depth-lt5
-returns-then-len-depth-lt5 g t c = let high : c.args.len < c.args.depth + 5 = omega (arith, c.requires.low, c.if-len-depth-lt5.true) in subst (λ z. Gets {R = Bor g.row.T.Denot} (λ r. r.now) node_form g.W.Word.width c.args.depth (record { bits = g.W.Word.number c.args.key; len = c.args.len }) z None) c.visit-here.ensures.node (here_none node_form g.W.Word.width c.args.depth c.data_bit-bit.result (record { bits = g.W.Word.number c.args.key; len = c.args.len }) c.visit-here.result.node.now c.requires.low high c.data_bit-bit.ensures.bit (ap (λ m. bit_at m c.data_bit-bit.result) (sym c.data_bitmap.ensures) ∙ test_off c.data_bitmap.result c.data_bit-bit.result c.if-data_bitmap-bit-eq1.false))
+pub returns-then-len-depth-lt5-clause-item : goal.returns-then-len-depth-lt5-clause-item
+returns-then-len-depth-lt5-clause-item g t c = let high : c.args.len < c.args.depth + 5 = omega (arith, c.requires.low, c.if-len-depth-lt5.true) in subst (λ z. Gets {R = Bor g.row.T.Denot} (λ r. r.now) node_form g.W.Word.width c.args.depth (record { bits = g.W.Word.number c.args.key; len = c.args.len }) z None) c.visit-here.ensures.node (here_none node_form g.W.Word.width c.args.depth c.data_bit-bit.result (record { bits = g.W.Word.number c.args.key; len = c.args.len }) c.visit-here.result.node.now c.requires.low high c.data_bit-bit.ensures.bit (ap (λ m. bit_at m c.data_bit-bit.result) (sym c.data_bitmap.ensures) ∙ test_off c.data_bitmap.result c.data_bit-bit.result c.if-data_bitmap-bit-eq1.false))
 
-pub returns-then-child_bitmap-bit-eq1 : goal.returns-then-child_bitmap-bit-eq1
-returns-then-child_bitmap-bit-eq1 g t c = let long : c.args.depth + 5 ≤ c.args.len = omega (arith, c.if-len-depth-lt5.false) in subst (λ z. Gets {R = Bor g.row.T.Denot} (λ r. r.now) node_form g.W.Word.width c.args.depth (record { bits = g.W.Word.number c.args.key; len = c.args.len }) z c.find.result) c.visit-here.ensures.node (kid_gets {R = Bor g.row.T.Denot} (λ r. r.now) node_form g.W.Word.width c.args.depth c.child_toward-bit.result (record { bits = g.W.Word.number c.args.key; len = c.args.len }) c.visit-here.result.node.now c.child.result.now c.find.result long c.child_toward-bit.ensures.bit c.child.ensures c.find.ensures)
+pub returns-then-child_bitmap-bit-eq1-clause-item : goal.returns-then-child_bitmap-bit-eq1-clause-item
+returns-then-child_bitmap-bit-eq1-clause-item g t c = let long : c.args.depth + 5 ≤ c.args.len = omega (arith, c.if-len-depth-lt5.false) in subst (λ z. Gets {R = Bor g.row.T.Denot} (λ r. r.now) node_form g.W.Word.width c.args.depth (record { bits = g.W.Word.number c.args.key; len = c.args.len }) z c.find.result) c.visit-here.ensures.node (kid_gets {R = Bor g.row.T.Denot} (λ r. r.now) node_form g.W.Word.width c.args.depth c.child_toward-bit.result (record { bits = g.W.Word.number c.args.key; len = c.args.len }) c.visit-here.result.node.now c.child.result.now c.find.result long c.child_toward-bit.ensures.bit c.child.ensures c.find.ensures.item)
 
-pub returns : goal.returns
-returns g t c = let long : c.args.depth + 5 ≤ c.args.len = omega (arith, c.if-len-depth-lt5.false) in subst (λ z. Gets {R = Bor g.row.T.Denot} (λ r. r.now) node_form g.W.Word.width c.args.depth (record { bits = g.W.Word.number c.args.key; len = c.args.len }) z None) c.visit-here.ensures.node (kid_none node_form g.W.Word.width c.args.depth c.child_toward-bit.result (record { bits = g.W.Word.number c.args.key; len = c.args.len }) c.visit-here.result.node.now long c.child_toward-bit.ensures.bit (ap (λ m. bit_at m c.child_toward-bit.result) (sym c.child_bitmap.ensures) ∙ test_off c.child_bitmap.result c.child_toward-bit.result c.if-child_bitmap-bit-eq1.false))
+pub returns-clause-item : goal.returns-clause-item
+returns-clause-item g t c = let long : c.args.depth + 5 ≤ c.args.len = omega (arith, c.if-len-depth-lt5.false) in subst (λ z. Gets {R = Bor g.row.T.Denot} (λ r. r.now) node_form g.W.Word.width c.args.depth (record { bits = g.W.Word.number c.args.key; len = c.args.len }) z None) c.visit-here.ensures.node (kid_none node_form g.W.Word.width c.args.depth c.child_toward-bit.result (record { bits = g.W.Word.number c.args.key; len = c.args.len }) c.visit-here.result.node.now long c.child_toward-bit.ensures.bit (ap (λ m. bit_at m c.child_toward-bit.result) (sym c.child_bitmap.ensures) ∙ test_off c.child_bitmap.result c.child_toward-bit.result c.if-child_bitmap-bit-eq1.false))

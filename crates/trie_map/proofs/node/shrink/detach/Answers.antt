@@ -1,6 +1,7 @@
 use Rattle.std.proofs.Common.{rules}
-use Rattle.trie_model.proofs.TrieLaws.{slot-lt, cleared}
-use Rattle.trie_model.proofs.PutLaws.{take_old_at, clear_bit}
+use Rattle.trie_model.proofs.NodeLaws.{slot-lt}
+use Rattle.trie_model.proofs.TrieLaws.{cleared}
+use Rattle.trie_model.proofs.TakeLaws.{take_old_at, clear_bit}
 use Rattle.trie_map.proofs.node.shrink.detach.Goals as goal
 
 pub remove-item-requires : goal.remove-item-requires

@@ -1,7 +1,7 @@
 use Rattle.std.proofs.Common.{rules}
 use Rattle.trie_model.proofs.FullLaws.{full_gone, full_kept, some_left, some_right}
 use Rattle.trie_map.specs.Forms.{node_form}
-use Rattle.trie_model.proofs.PutLaws.{taken_in, kid_good_back, drop_keeps_at}
+use Rattle.trie_model.proofs.TakeLaws.{taken_in, kid_good_back, drop_keeps_at}
 use Rattle.trie_map.specs.declared.node.Node.TheViews.{the_lemmas}
 use Rattle.trie_map.proofs.node.shrink.prune.Goals as goal
 use Rattle.trie_map.proofs.node.shrink.prune.Goals.{else-child-eq0-via-then-child-eq0+else-child-eq0-2, else-child-eq0-via-else-child-eq0}

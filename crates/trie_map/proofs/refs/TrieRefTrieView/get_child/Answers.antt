@@ -1,6 +1,7 @@
 use Rattle.std.proofs.Common.{ℕ, ◌+◌, ◌*◌, ◌/◌, ap, arith}
 use Rattle.trie_model.specs.Nets.{Net}
-use Rattle.trie_model.proofs.TrieLaws.{ref_child_at, ref_node, ref_kid, ref_deep, ref_ok_child, ref_took_child}
+use Rattle.trie_model.proofs.RootLaws.{ref_child_at}
+use Rattle.trie_model.proofs.TrieLaws.{ref_node, ref_kid, ref_deep, ref_ok_child, ref_took_child}
 use Rattle.trie_map.specs.Forms.{node_form}
 use Rattle.trie_map.proofs.refs.TrieRefTrieView.get_child.Goals as goal
 
