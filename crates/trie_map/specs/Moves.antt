@@ -3,15 +3,15 @@ use Rattle.std.specs.Prelude.{◌≡◌, ℕ, ◌+◌, ◌<◌, ◌↔◌, ⊤, 
 use Rattle.std.specs.Int.{bit_at}
 use Rattle.trie_model.specs.Nets.{Net}
 use Rattle.trie_model.specs.Views.{Told, data_net, TookData, TookChild, IsChild}
-use Rattle.trie_model.specs.Walks.{Left, Gives, work}
+use Rattle.trie_model.specs.Walks.{Left, Gives, Vacant, work}
 use Rattle.trie_map.specs.declared.walk.Step.{Step}
 use Rattle.trie_map.specs.declared.walk.Step.TheVariants.{Nothing, Item, Child}
 use Rattle.trie_map.specs.declared.walk.Move.{Move}
 use Rattle.trie_map.specs.declared.walk.Move.TheVariants.{End, On, Found}
 
--- nothing at the spot, or the pair of its data bit, or its child
+-- nothing stands at the spot, or the pair of its data bit, or its child
 abbrev pub StepOf : {V T X : Type 0} → (V → Type 0) → (V → Told X) → (T → X) → ℕ → ℕ → V → V → Step V T → Type 0
-StepOf valid tell item w spot old new Nothing = new ≡ old
+StepOf valid tell item w spot old new Nothing = (new ≡ old) × Vacant (tell old) spot
 StepOf valid tell item w spot old new (Item bit x) = (bit < 31) × (spot ≡ bit + 1) × (tell old).at (data_net w (tell old).place bit) (item x) × TookData w bit (tell old) (tell new)
 StepOf valid tell item w spot old new (Child bit c) = (bit < 32) × (spot ≡ 32 + bit) × (bit_at (tell old).child_bits bit ≡ 1) × valid c × IsChild w bit (tell old) (tell c) × TookChild w bit (tell old) (tell new)
 

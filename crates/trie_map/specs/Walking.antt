@@ -2,12 +2,12 @@
 use Rattle.std.specs.Prelude.{◌≡◌, ℕ, Option, Some, None, Result, Ok, Err, vec_capacity}
 use Rattle.trie_model.specs.Nets.{Net}
 use Rattle.trie_model.specs.Views.{Told}
-use Rattle.trie_model.specs.Walks.{AllFrugal, Left, Gives, Roomy, WalkOk}
+use Rattle.trie_model.specs.Walks.{AllFrugal, Left, Gives, Roomy, WalkOk, rest}
 use Rattle.trie_map.specs.declared.walk.ViewIter.{ViewIter}
 
 -- the walk may go on, and has the room for it
 pub record CanWalk {V X : Type 0} (valid : V → Type 0) (tell : V → Told X) (w : ℕ) (walk : ViewIter V) : Type 0 where
-  pub levels : WalkOk (λ l. valid l.view) (λ l. tell l.view) (λ l. l.spot) w walk.levels.items
+  pub levels : WalkOk (λ l. valid l.view) (λ l. rest w (tell l.view) l.spot) (λ l. l.spot) w walk.levels.items
   pub room : Roomy w (λ l. tell l.view) walk.levels.items (vec_capacity walk.levels)
 
 -- the walk takes no memory
@@ -15,11 +15,11 @@ abbrev pub IsFrugalWalk : {V X : Type 0} → (V → Told X) → ViewIter V → T
 IsFrugalWalk tell walk = AllFrugal (λ l. tell l.view) walk.levels.items
 
 -- the pairs that are still to come
-abbrev pub ToCome : {V X : Type 0} → (V → Told X) → ViewIter V → Net → X → Type 0
-ToCome tell walk n x = Left (λ l. tell l.view) walk.levels.items n x
+abbrev pub ToCome : {V X : Type 0} → (V → Told X) → ℕ → ViewIter V → Net → X → Type 0
+ToCome tell w walk n x = Left (λ l. rest w (tell l.view) l.spot) walk.levels.items n x
 
 -- what the next call gives: nothing where nothing is to come, or the first pair of what is to come, or a refusal, after which nothing comes
 abbrev pub NextOf : {V P T X E : Type 0} → (V → Told X) → (T → X) → (P → Net) → (P → ℕ) → ℕ → ViewIter V → ViewIter V → Option (Result (P × T) E) → Type 0
-NextOf {V} {P} {T} {X} tell item net raw w old new None = (n : Net) (x : X) → ToCome tell old n x → ⊥
-NextOf {V} {P} {T} {X} tell item net raw w old new (Some (Ok p)) = Gives w (λ l. tell l.view) old.levels.items new.levels.items (net p.0) (item p.1) × (raw p.0 ≡ (net p.0).bits)
-NextOf {V} {P} {T} {X} tell item net raw w old new (Some (Err e)) = (n : Net) (x : X) → ToCome tell new n x → ⊥
+NextOf {V} {P} {T} {X} tell item net raw w old new None = (n : Net) (x : X) → ToCome tell w old n x → ⊥
+NextOf {V} {P} {T} {X} tell item net raw w old new (Some (Ok p)) = Gives w (λ l. rest w (tell l.view) l.spot) old.levels.items new.levels.items (net p.0) (item p.1) × (raw p.0 ≡ (net p.0).bits)
+NextOf {V} {P} {T} {X} tell item net raw w old new (Some (Err e)) = (n : Net) (x : X) → ToCome tell w new n x → ⊥

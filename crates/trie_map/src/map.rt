@@ -147,7 +147,7 @@ impl<P: Place, T> PrefixMap<P, T> {
     pub fn iter<'a>(&'a self) -> Result<ViewIter<TrieRef<'a, P, T>>, NoMemory>
         ensures usable { IfOk result (λ walk. CanWalk ⟦<TrieRef<'a, P, T> as TrieView<'a>>⟧.valid ⟦<TrieRef<'a, P, T> as TrieView<'a>>⟧.told P.Number.width walk) }
         ensures frugal { IfOk result (λ walk. IsFrugalWalk ⟦<TrieRef<'a, P, T> as TrieView<'a>>⟧.told walk) }
-        ensures whole { IfOk result (λ walk. (n : Net) (x : T) → ToCome ⟦<TrieRef<'a, P, T> as TrieView<'a>>⟧.told walk n x ↔ Within self.now n x) }
+        ensures whole { IfOk result (λ walk. (n : Net) (x : T) → ToCome ⟦<TrieRef<'a, P, T> as TrieView<'a>>⟧.told P.Number.width walk n x ↔ Within self.now n x) }
     {
         ViewIter::new(self.alloc, self.view())
     }

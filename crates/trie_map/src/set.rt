@@ -101,7 +101,7 @@ impl<P: Place> PrefixSet<P> {
     pub fn iter<'a>(&'a self) -> Result<ViewIter<TrieRef<'a, P, ()>>, NoMemory>
         ensures usable { IfOk result (λ walk. CanWalk ⟦<TrieRef<'a, P, ()> as TrieView<'a>>⟧.valid ⟦<TrieRef<'a, P, ()> as TrieView<'a>>⟧.told P.Number.width walk) }
         ensures frugal { IfOk result (λ walk. IsFrugalWalk ⟦<TrieRef<'a, P, ()> as TrieView<'a>>⟧.told walk) }
-        ensures whole { IfOk result (λ walk. (n : Net) (x : Unit {0}) → ToCome ⟦<TrieRef<'a, P, ()> as TrieView<'a>>⟧.told walk n x ↔ Within self.now n x) }
+        ensures whole { IfOk result (λ walk. (n : Net) (x : Unit {0}) → ToCome ⟦<TrieRef<'a, P, ()> as TrieView<'a>>⟧.told P.Number.width walk n x ↔ Within self.now n x) }
     {
         self.map.iter()
     }

@@ -6,7 +6,7 @@ ghost use Rattle.trie_map.specs.Moves.{StepOf, MoveOf, Lessens};
 ghost use Rattle.trie_map.specs.Walking.{CanWalk, IsFrugalWalk, NextOf, ToCome};
 ghost use Rattle.trie_model.specs.Heap.{next_spot};
 ghost use Rattle.trie_model.specs.Nets.{Net};
-ghost use Rattle.trie_model.specs.Walks.{Ahead, AllFrugal, Roomy, WalkOk};
+ghost use Rattle.trie_model.specs.Walks.{AllFrugal, From, Left, Roomy, WalkOk, rest};
 
 use crate::masks::reconstruct_prefix;
 use crate::node::{Start, Steps};
@@ -60,10 +60,8 @@ fn take<'a, V: TrieView<'a>, S>(
     requires usable { V.valid view.old }
     requires first { 1 ≤ spot }
     requires last { spot < 64 }
-    requires ahead { Ahead V.P.Number.width (V.told view.old) spot }
     ensures step { IfOk result (λ s. StepOf V.valid V.told V.item V.P.Number.width spot view.old view.new s) }
     ensures usable { OnOk result (V.valid view.new) }
-    ensures ahead { OnOk result (Ahead V.P.Number.width (V.told view.new) (next_spot spot)) }
     ensures frugal { IsTrue (V.told view.old).frugal → IsOk result }
 {
     if spot < 32 {
@@ -111,10 +109,10 @@ fn advance<'a, V: TrieView<'a>, S>(
     levels: &mut Vec<Level<V>>,
     steps: &mut Steps<S>,
 ) -> Result<Move<V::P, V::T>, NoMemory>
-    requires usable { WalkOk (λ l. V.valid l.view) (λ l. V.told l.view) (λ l. l.spot) V.P.Number.width levels.old.items }
+    requires usable { WalkOk (λ l. V.valid l.view) (λ l. rest V.P.Number.width (V.told l.view) l.spot) (λ l. l.spot) V.P.Number.width levels.old.items }
     requires room { Roomy V.P.Number.width (λ l. V.told l.view) levels.old.items (vec_capacity levels.old) }
-    ensures usable { OnOk result (WalkOk (λ l. V.valid l.view) (λ l. V.told l.view) (λ l. l.spot) V.P.Number.width levels.new.items) }
-    ensures moved { IfOk result (λ m. MoveOf (λ l. V.told l.view) V.item V.P.net V.P.raw V.P.Number.width levels.old.items levels.new.items m) }
+    ensures usable { OnOk result (WalkOk (λ l. V.valid l.view) (λ l. rest V.P.Number.width (V.told l.view) l.spot) (λ l. l.spot) V.P.Number.width levels.new.items) }
+    ensures moved { IfOk result (λ m. MoveOf (λ l. rest V.P.Number.width (V.told l.view) l.spot) V.item V.P.net V.P.raw V.P.Number.width levels.old.items levels.new.items m) }
     ensures room { OnOk result (Roomy V.P.Number.width (λ l. V.told l.view) levels.new.items (vec_capacity levels.new)) }
     ensures capacity { vec_capacity levels.old ≤ vec_capacity levels.new }
     ensures frugal { AllFrugal (λ l. V.told l.view) levels.old.items → IsOk result }
@@ -168,7 +166,7 @@ impl<'a, V: TrieView<'a>> ViewIter<V> {
         requires { V.valid view }
         ensures usable { IfOk result (λ walk. CanWalk V.valid V.told V.P.Number.width walk) }
         ensures frugal { IfOk result (λ walk. IsTrue (V.told view).frugal → IsFrugalWalk V.told walk) }
-        ensures whole { IfOk result (λ walk. (n : Net) (x : V.Item) → ToCome V.told walk n x ↔ (V.told view).at n x) }
+        ensures whole { IfOk result (λ walk. (n : Net) (x : V.Item) → ToCome V.told V.P.Number.width walk n x ↔ (V.told view).at n x) }
     {
         let mut levels = Vec::with_capacity(
             alloc,

@@ -222,13 +222,13 @@ by_depth w d n false e ok le =
 pub in_spot : (w d : ℕ) (n : Net) → IsNet w n → d ≤ n.len → InSpot w d n (spot_of w d n)
 in_spot w d n ok le = by_depth w d n (leb (d + 5) n.len) refl ok le
 
-lower_bits : (w : ℕ) (a b : Net) → a.len ≤ w → a.bits < b.bits → order_key w a < order_key w b
+pub lower_bits : (w : ℕ) (a b : Net) → a.len ≤ w → a.bits < b.bits → order_key w a < order_key w b
 lower_bits w a b fits lt =
     let m : (a.bits + 1) * (w + 1) ≤ b.bits * (w + 1) = mul-le-mul_right (w + 1) (let le : a.bits + 1 ≤ b.bits = omega arith in le) in
     let e = add-mul a.bits 1 (w + 1) in
     omega arith
 
-lower_len : (w : ℕ) (a b : Net) → a.bits ≤ b.bits → a.len < b.len → order_key w a < order_key w b
+pub lower_len : (w : ℕ) (a b : Net) → a.bits ≤ b.bits → a.len < b.len → order_key w a < order_key w b
 lower_len w a b le lt =
     let m : a.bits * (w + 1) ≤ b.bits * (w + 1) = mul-le-mul_right (w + 1) le in
     omega arith

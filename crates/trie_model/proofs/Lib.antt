@@ -9,9 +9,11 @@ pub mod MaskLaws
 pub mod NodeLaws
 pub mod Places
 pub mod PutLaws
+pub mod RestLaws
 pub mod RoomLaws
 pub mod RootLaws
 pub mod SlotLaws
+pub mod StartLaws
 pub mod TakeLaws
 pub mod TrieLaws
 pub mod TrieMaps

@@ -79,13 +79,13 @@ pub record MaskOf (w d n len mask : ℕ) : Type 0 where
   pub fit : n < 2 ^ w
   pub is : (bit : ℕ) → bit < 31 → bit_at mask bit ≡ cond (covers w (net_of_bit w d n bit) (record { bits = n; len = len })) 1 0
 
-both_one : (x y : ℕ) → x ≡ 1 → y ≡ 1 → min x y ≡ 1
+pub both_one : (x y : ℕ) → x ≡ 1 → y ≡ 1 → min x y ≡ 1
 both_one x y p q = omega arith
 
-one_both : (x y : ℕ) → min x y ≡ 1 → x < 2 → y < 2 → (x ≡ 1) × (y ≡ 1)
+pub one_both : (x y : ℕ) → min x y ≡ 1 → x < 2 → y < 2 → (x ≡ 1) × (y ≡ 1)
 one_both x y h p q = (omega arith, omega arith)
 
-cond_is : (t : Bool) (z : ℕ) → z ≡ cond t 1 0 → z ≡ 1 → t ≡ true
+pub cond_is : (t : Bool) (z : ℕ) → z ≡ cond t 1 0 → z ≡ 1 → t ≡ true
 cond_is true z e h = refl
 cond_is false z e h = absurd (let no : ⊥ = omega arith in no)
 

@@ -66,7 +66,7 @@ walk_item {L} {X} good tell spot w ls l u bit x ok lt e at took =
 
 -- ---- a child is gone into
 
-by_covers : {A : Type 0} (b : Bool) → (b ≡ true → A) → (b ≡ false → A) → A
+pub by_covers : {A : Type 0} (b : Bool) → (b ≡ true → A) → (b ≡ false → A) → A
 by_covers true f g = f refl
 by_covers false f g = g refl
 

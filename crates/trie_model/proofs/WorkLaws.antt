@@ -22,7 +22,7 @@ rank_table = refl
 rank_row : (h : ℕ) → 1 ≤ h → h < 64 → (ltb (rank_at h) (rank_at (next_spot h)) && ltb (rank_at (next_spot h)) 198) ≡ true
 rank_row h p q = by_if _ _ (under 64 (λ h. if_then (ltb 0 h) (ltb (rank_at h) (rank_at (next_spot h)) && ltb (rank_at (next_spot h)) 198)) rank_table h q) (lt-ltb 0 h (omega arith))
 
-rank_more : (h : ℕ) → 1 ≤ h → h < 64 → rank_at h < rank_at (next_spot h)
+pub rank_more : (h : ℕ) → 1 ≤ h → h < 64 → rank_at h < rank_at (next_spot h)
 rank_more h p q = ltb-lt _ _ (and_left _ _ (rank_row h p q))
 
 rank_small : (h : ℕ) → 1 ≤ h → h < 64 → rank_at (next_spot h) < 198

@@ -1,5 +1,6 @@
 -- What a walk over a view has still to give, and the list that it gives.
-use Rattle.std.specs.Prelude.{◌≡◌, ◌↔◌, ◌⊎◌, ⊤, ℕ, ◌+◌, ◌-◌, ◌*◌, ◌/◌, ◌^◌, ◌<◌, ◌≤◌, false, List, [], ◌∷◌, IsTrue}
+use Rattle.std.specs.Prelude.{◌≡◌, ◌↔◌, ◌⊎◌, ⊤, zero, suc, ℕ, ◌+◌, ◌-◌, ◌*◌, ◌/◌, ◌^◌, ◌<◌, ◌≤◌, Bool, false, cond, leb, bit_and, List, [], ◌∷◌, IsTrue}
+use Rattle.std.specs.Int.{bit_at}
 use Rattle.trie_model.specs.Nets.{Net}
 use Rattle.trie_model.specs.Views.{Told, IsView, depth_at, same_net}
 use Rattle.trie_model.specs.Heap.{rank_at, spot_of, order_key}
@@ -19,6 +20,37 @@ Sorted {L} {X} w tell (l ∷ ls) = ((n m : Net) (x y : X) → Left tell ls n x �
 -- no pair of the view lies before the spot
 unfoldable pub Ahead : {X : Type 0} → ℕ → Told X → ℕ → Type 0
 Ahead {X} w t h = (n : Net) (x : X) → t.at n x → rank_at h ≤ rank_at (spot_of w (depth_at t.place.len) n)
+
+-- the bits below n whose test holds
+unfoldable pub bits_where : ℕ → (ℕ → Bool) → ℕ
+bits_where zero f = 0
+bits_where (suc n) f = bits_where n f + cond (f n) (2 ^ n) 0
+
+-- the data bits from a spot on
+unfoldable pub data_from : ℕ → ℕ
+data_from h = bits_where 31 (λ b. leb (rank_at h) (rank_at (b + 1)))
+
+-- the children from a spot on
+unfoldable pub children_from : ℕ → ℕ
+children_from h = bits_where 32 (λ c. leb (rank_at h) (rank_at (32 + c)))
+
+-- the pairs of a view from a spot on
+abbrev pub rest : {X : Type 0} → ℕ → Told X → ℕ → Told X
+rest w t h = record {
+  place = t.place;
+  data_bits = bit_and t.data_bits (data_from h);
+  child_bits = bit_and t.child_bits (children_from h);
+  at = λ n x. t.at n x × (rank_at h ≤ rank_at (spot_of w (depth_at t.place.len) n));
+  frugal = t.frugal;
+}
+
+-- nothing stands at the spot
+abbrev pub Vacant : {X : Type 0} → Told X → ℕ → Type 0
+Vacant t h = (h < 32 → bit_at t.data_bits (h - 1) ≡ 1 → ⊥) × (32 ≤ h → bit_at t.child_bits (h - 32) ≡ 1 → ⊥)
+
+-- the prefix is this one or comes behind it, or only the latter
+abbrev pub From : ℕ → Bool → Net → Net → Type 0
+From w inclusive net n = order_key w net < order_key w n + cond inclusive 1 0
 
 -- a level of the stack
 pub record LevelOk {L X : Type 0} (good : L → Type 0) (tell : L → Told X) (spot : L → ℕ) (w : ℕ) (l : L) : Type 0 where

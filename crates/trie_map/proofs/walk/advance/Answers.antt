@@ -2,8 +2,8 @@ use Rattle.std.proofs.Common.{rules, ◌≡◌, ℕ, ◌+◌, ◌^◌, ◌<◌, 
 use Rattle.std.specs.Prelude.{◌↔◌}
 use Rattle.trie_model.specs.Nets.{Net}
 use Rattle.trie_model.specs.Views.{Told, depth_at, net_of_bit, data_net, level_of}
-use Rattle.trie_model.specs.Walks.{Ahead}
-use Rattle.trie_model.proofs.WalkLaws.{ahead_start, nothing_left}
+use Rattle.trie_model.proofs.WalkLaws.{nothing_left}
+use Rattle.trie_model.proofs.RestLaws.{rest_view, rest_ahead, rest_item, rest_child, rest_set, on_vacant, on_data, on_took}
 use Rattle.trie_model.specs.Walks.{Gives}
 use Rattle.trie_model.proofs.Levels.{top_of, popped, went_on, gave, went_down}
 use Rattle.std.specs.Prelude.{vec_capacity, IsTrue}
@@ -37,10 +37,7 @@ next_spot-requires-clause-last g c = below c.in-Some.level.spot (top_of _ _ _ _ 
 pub take-requires : goal.take-requires
 take-requires g c κs =
     let top = top_of _ _ _ _ _ _ c.in-Some.level c.in-Some.ensures.items c.requires.usable in
-    ((refl, tt), (top.usable, (top.first, (below c.in-Some.level.spot top.last c.if-spot-eq64.false, top.ahead))))
-
-same_view : {V X : Type 0} (tell : V → Told X) (u v : V) → u ≡ v → (n : Net) (x : X) → (tell u).at n x ↔ (tell v).at n x
-same_view tell u v e n x = subst (λ o. (tell o).at n x ↔ (tell v).at n x) (sym e) ((λ h. h), (λ h. h))
+    ((refl, tt), (top.usable, (top.first, below c.in-Some.level.spot top.last c.if-spot-eq64.false)))
 
 same_gives : {L X : Type 0} (w : ℕ) (tell : L → Told X) (old new : List L) (place n : Net) (bit depth key : ℕ) (x : X) → n ≡ net_of_bit w depth key bit → depth ≡ depth_at place.len → key ≡ place.bits → Gives w tell old new (data_net w place bit) x → Gives w tell old new n x
 same_gives w tell old new place n bit depth key x is e f h =
@@ -49,29 +46,29 @@ same_gives w tell old new place n bit depth key x is e f h =
 pub returns-in-Nothing-clause-usable : goal.returns-in-Nothing-clause-usable
 returns-in-Nothing-clause-usable g c =
     (went_on _ _ _ _ _ _ _ c.in-Some.level _ c.in-Some.ensures.items c.put.ensures.items c.requires.usable
-    (record { usable = c.in_ok-take.ensures.usable; view = (g.met.V.TrieView c.lifetimes (search rules)).laws _ c.in_ok-take.ensures.usable; first = c.next_spot.ensures.first; last = c.next_spot.ensures.last; ahead = subst (Ahead g.V.P.Number.Word.width (g.V.TrieView.told c.take.new.view)) (sym c.next_spot.ensures.next) c.in_ok-take.ensures.ahead })
-    (same_view g.V.TrieView.told _ _ (rw c.in-Nothing.is at c.in_ok-take.ensures.step))).0
+    (record { usable = c.in_ok-take.ensures.usable; view = rest_view g.V.P.Number.Word.width (g.V.TrieView.told c.take.new.view) c.next_spot.result c.next_spot.ensures.last ((g.met.V.TrieView c.lifetimes (search rules)).laws _ c.in_ok-take.ensures.usable); first = c.next_spot.ensures.first; last = c.next_spot.ensures.last; ahead = rest_ahead g.V.P.Number.Word.width (g.V.TrieView.told c.take.new.view) c.next_spot.result })
+    (let step = rw c.in-Nothing.is at c.in_ok-take.ensures.step in let top = (top_of _ _ _ _ _ _ c.in-Some.level c.in-Some.ensures.items c.requires.usable) in on_vacant g.V.TrieView.told g.V.P.Number.Word.width c.in-Some.level.spot c.next_spot.result _ _ step.0 c.next_spot.ensures.next ((g.met.V.TrieView c.lifetimes (search rules)).laws _ (top_of _ _ _ _ _ _ c.in-Some.level c.in-Some.ensures.items c.requires.usable).usable) top.first (below c.in-Some.level.spot top.last c.if-spot-eq64.false) step.1)).0
 
 pub returns-in-Nothing-clause-moved : goal.returns-in-Nothing-clause-moved
 returns-in-Nothing-clause-moved g c =
     (went_on _ _ _ _ _ _ _ c.in-Some.level _ c.in-Some.ensures.items c.put.ensures.items c.requires.usable
-    (record { usable = c.in_ok-take.ensures.usable; view = (g.met.V.TrieView c.lifetimes (search rules)).laws _ c.in_ok-take.ensures.usable; first = c.next_spot.ensures.first; last = c.next_spot.ensures.last; ahead = subst (Ahead g.V.P.Number.Word.width (g.V.TrieView.told c.take.new.view)) (sym c.next_spot.ensures.next) c.in_ok-take.ensures.ahead })
-    (same_view g.V.TrieView.told _ _ (rw c.in-Nothing.is at c.in_ok-take.ensures.step))).1
+    (record { usable = c.in_ok-take.ensures.usable; view = rest_view g.V.P.Number.Word.width (g.V.TrieView.told c.take.new.view) c.next_spot.result c.next_spot.ensures.last ((g.met.V.TrieView c.lifetimes (search rules)).laws _ c.in_ok-take.ensures.usable); first = c.next_spot.ensures.first; last = c.next_spot.ensures.last; ahead = rest_ahead g.V.P.Number.Word.width (g.V.TrieView.told c.take.new.view) c.next_spot.result })
+    (let step = rw c.in-Nothing.is at c.in_ok-take.ensures.step in let top = (top_of _ _ _ _ _ _ c.in-Some.level c.in-Some.ensures.items c.requires.usable) in on_vacant g.V.TrieView.told g.V.P.Number.Word.width c.in-Some.level.spot c.next_spot.result _ _ step.0 c.next_spot.ensures.next ((g.met.V.TrieView c.lifetimes (search rules)).laws _ (top_of _ _ _ _ _ _ c.in-Some.level c.in-Some.ensures.items c.requires.usable).usable) top.first (below c.in-Some.level.spot top.last c.if-spot-eq64.false) step.1)).1
 
 pub returns-in-Item-clause-usable : goal.returns-in-Item-clause-usable
 returns-in-Item-clause-usable g c =
     let step = rw c.in-Item.is at c.in_ok-take.ensures.step in
     (gave _ _ _ _ _ _ _ c.in-Some.level _ c.in-Item.bit _ c.in-Some.ensures.items c.put-in-Item.ensures.items c.requires.usable
-    (record { usable = c.in_ok-take.ensures.usable; view = (g.met.V.TrieView c.lifetimes (search rules)).laws _ c.in_ok-take.ensures.usable; first = c.next_spot.ensures.first; last = c.next_spot.ensures.last; ahead = subst (Ahead g.V.P.Number.Word.width (g.V.TrieView.told c.take.new.view)) (sym c.next_spot.ensures.next) c.in_ok-take.ensures.ahead })
-    step.0 step.1 step.2 step.3).0
+    (record { usable = c.in_ok-take.ensures.usable; view = rest_view g.V.P.Number.Word.width (g.V.TrieView.told c.take.new.view) c.next_spot.result c.next_spot.ensures.last ((g.met.V.TrieView c.lifetimes (search rules)).laws _ c.in_ok-take.ensures.usable); first = c.next_spot.ensures.first; last = c.next_spot.ensures.last; ahead = rest_ahead g.V.P.Number.Word.width (g.V.TrieView.told c.take.new.view) c.next_spot.result })
+    step.0 step.1 (rest_item g.V.P.Number.Word.width _ c.in-Some.level.spot c.in-Item.bit _ ((g.met.V.TrieView c.lifetimes (search rules)).laws _ (top_of _ _ _ _ _ _ c.in-Some.level c.in-Some.ensures.items c.requires.usable).usable) step.1 step.0 step.2) (on_data g.V.P.Number.Word.width _ _ c.in-Some.level.spot c.next_spot.result c.in-Item.bit ((g.met.V.TrieView c.lifetimes (search rules)).laws _ (top_of _ _ _ _ _ _ c.in-Some.level c.in-Some.ensures.items c.requires.usable).usable) step.1 step.0 c.next_spot.ensures.next step.3)).0
 
 pub returns-in-Item-clause-moved : goal.returns-in-Item-clause-moved
 returns-in-Item-clause-moved g c =
     let step = rw c.in-Item.is at c.in_ok-take.ensures.step in (
       same_gives _ _ _ _ _ (g.V.P.Place.net c.reconstruct_prefix-prefix.result) c.in-Item.bit _ _ _ c.reconstruct_prefix-prefix.ensures.net c.depth-depth.ensures c.key-key.ensures
           (gave _ _ _ _ _ _ _ c.in-Some.level _ c.in-Item.bit _ c.in-Some.ensures.items c.put-in-Item.ensures.items c.requires.usable
-          (record { usable = c.in_ok-take.ensures.usable; view = (g.met.V.TrieView c.lifetimes (search rules)).laws _ c.in_ok-take.ensures.usable; first = c.next_spot.ensures.first; last = c.next_spot.ensures.last; ahead = subst (Ahead g.V.P.Number.Word.width (g.V.TrieView.told c.take.new.view)) (sym c.next_spot.ensures.next) c.in_ok-take.ensures.ahead })
-          step.0 step.1 step.2 step.3).1,
+          (record { usable = c.in_ok-take.ensures.usable; view = rest_view g.V.P.Number.Word.width (g.V.TrieView.told c.take.new.view) c.next_spot.result c.next_spot.ensures.last ((g.met.V.TrieView c.lifetimes (search rules)).laws _ c.in_ok-take.ensures.usable); first = c.next_spot.ensures.first; last = c.next_spot.ensures.last; ahead = rest_ahead g.V.P.Number.Word.width (g.V.TrieView.told c.take.new.view) c.next_spot.result })
+          step.0 step.1 (rest_item g.V.P.Number.Word.width _ c.in-Some.level.spot c.in-Item.bit _ ((g.met.V.TrieView c.lifetimes (search rules)).laws _ (top_of _ _ _ _ _ _ c.in-Some.level c.in-Some.ensures.items c.requires.usable).usable) step.1 step.0 step.2) (on_data g.V.P.Number.Word.width _ _ c.in-Some.level.spot c.next_spot.result c.in-Item.bit ((g.met.V.TrieView c.lifetimes (search rules)).laws _ (top_of _ _ _ _ _ _ c.in-Some.level c.in-Some.ensures.items c.requires.usable).usable) step.1 step.0 c.next_spot.ensures.next step.3)).1,
       c.reconstruct_prefix-prefix.ensures.raw,
     )
 
@@ -79,17 +76,17 @@ pub returns-in-Child-clause-usable : goal.returns-in-Child-clause-usable
 returns-in-Child-clause-usable g c =
     let step = rw c.in-Child.is at c.in_ok-take.ensures.step in
     (went_down _ _ _ _ _ _ _ _ c.in-Some.level _ _ c.in-Child.field-0 c.in-Some.ensures.items c.put-in-Child.ensures.items c.put-in-Child-2.ensures.items c.requires.usable
-    (record { usable = c.in_ok-take.ensures.usable; view = (g.met.V.TrieView c.lifetimes (search rules)).laws _ c.in_ok-take.ensures.usable; first = c.next_spot.ensures.first; last = c.next_spot.ensures.last; ahead = subst (Ahead g.V.P.Number.Word.width (g.V.TrieView.told c.take.new.view)) (sym c.next_spot.ensures.next) c.in_ok-take.ensures.ahead })
-    (record { usable = step.3; view = (g.met.V.TrieView c.lifetimes (search rules)).laws _ step.3; first = omega arith; last = omega arith; ahead = ahead_start g.V.P.Number.Word.width (g.V.TrieView.told c.in-Child.child) })
-    step.0 step.1 step.2 step.4 step.5).0
+    (record { usable = c.in_ok-take.ensures.usable; view = rest_view g.V.P.Number.Word.width (g.V.TrieView.told c.take.new.view) c.next_spot.result c.next_spot.ensures.last ((g.met.V.TrieView c.lifetimes (search rules)).laws _ c.in_ok-take.ensures.usable); first = c.next_spot.ensures.first; last = c.next_spot.ensures.last; ahead = rest_ahead g.V.P.Number.Word.width (g.V.TrieView.told c.take.new.view) c.next_spot.result })
+    (record { usable = step.3; view = rest_view g.V.P.Number.Word.width (g.V.TrieView.told c.in-Child.child) 1 (omega arith) ((g.met.V.TrieView c.lifetimes (search rules)).laws _ step.3); first = omega arith; last = omega arith; ahead = rest_ahead g.V.P.Number.Word.width (g.V.TrieView.told c.in-Child.child) 1 })
+    step.0 step.1 (rest_set _ c.in-Some.level.spot c.in-Child.field-0 step.1 step.0 step.2) (rest_child g.V.P.Number.Word.width _ _ c.in-Some.level.spot c.in-Child.field-0 ((g.met.V.TrieView c.lifetimes (search rules)).laws _ (top_of _ _ _ _ _ _ c.in-Some.level c.in-Some.ensures.items c.requires.usable).usable) step.1 step.2 step.4) (on_took g.V.P.Number.Word.width _ _ c.in-Some.level.spot c.next_spot.result c.in-Child.field-0 ((g.met.V.TrieView c.lifetimes (search rules)).laws _ (top_of _ _ _ _ _ _ c.in-Some.level c.in-Some.ensures.items c.requires.usable).usable) step.1 step.0 step.2 c.next_spot.ensures.next step.5)).0
 
 pub returns-in-Child-clause-moved : goal.returns-in-Child-clause-moved
 returns-in-Child-clause-moved g c =
     let step = rw c.in-Child.is at c.in_ok-take.ensures.step in
     (went_down _ _ _ _ _ _ _ _ c.in-Some.level _ _ c.in-Child.field-0 c.in-Some.ensures.items c.put-in-Child.ensures.items c.put-in-Child-2.ensures.items c.requires.usable
-    (record { usable = c.in_ok-take.ensures.usable; view = (g.met.V.TrieView c.lifetimes (search rules)).laws _ c.in_ok-take.ensures.usable; first = c.next_spot.ensures.first; last = c.next_spot.ensures.last; ahead = subst (Ahead g.V.P.Number.Word.width (g.V.TrieView.told c.take.new.view)) (sym c.next_spot.ensures.next) c.in_ok-take.ensures.ahead })
-    (record { usable = step.3; view = (g.met.V.TrieView c.lifetimes (search rules)).laws _ step.3; first = omega arith; last = omega arith; ahead = ahead_start g.V.P.Number.Word.width (g.V.TrieView.told c.in-Child.child) })
-    step.0 step.1 step.2 step.4 step.5).1
+    (record { usable = c.in_ok-take.ensures.usable; view = rest_view g.V.P.Number.Word.width (g.V.TrieView.told c.take.new.view) c.next_spot.result c.next_spot.ensures.last ((g.met.V.TrieView c.lifetimes (search rules)).laws _ c.in_ok-take.ensures.usable); first = c.next_spot.ensures.first; last = c.next_spot.ensures.last; ahead = rest_ahead g.V.P.Number.Word.width (g.V.TrieView.told c.take.new.view) c.next_spot.result })
+    (record { usable = step.3; view = rest_view g.V.P.Number.Word.width (g.V.TrieView.told c.in-Child.child) 1 (omega arith) ((g.met.V.TrieView c.lifetimes (search rules)).laws _ step.3); first = omega arith; last = omega arith; ahead = rest_ahead g.V.P.Number.Word.width (g.V.TrieView.told c.in-Child.child) 1 })
+    step.0 step.1 (rest_set _ c.in-Some.level.spot c.in-Child.field-0 step.1 step.0 step.2) (rest_child g.V.P.Number.Word.width _ _ c.in-Some.level.spot c.in-Child.field-0 ((g.met.V.TrieView c.lifetimes (search rules)).laws _ (top_of _ _ _ _ _ _ c.in-Some.level c.in-Some.ensures.items c.requires.usable).usable) step.1 step.2 step.4) (on_took g.V.P.Number.Word.width _ _ c.in-Some.level.spot c.next_spot.result c.in-Child.field-0 ((g.met.V.TrieView c.lifetimes (search rules)).laws _ (top_of _ _ _ _ _ _ c.in-Some.level c.in-Some.ensures.items c.requires.usable).usable) step.1 step.0 step.2 c.next_spot.ensures.next step.5)).1
 
 pub returns-in_default-clause-moved : goal.returns-in_default-clause-moved
 returns-in_default-clause-moved g c n x h = nothing_left _ c.args.levels.now.items (let z = c.in_default.ensures.cases.0 in let e : length c.args.levels.now.items ≡ 0 = search (rules, z) in e) n x h
@@ -100,7 +97,7 @@ reconstruct_prefix-prefix-requires-clause-fits g c = subst (λ k. k < 2 ^ g.V.P.
 pub reconstruct_prefix-prefix-requires-clause-end : goal.reconstruct_prefix-prefix-requires-clause-end
 reconstruct_prefix-prefix-requires-clause-end g c =
     let step = rw c.in-Item.is at c.in_ok-take.ensures.step in
-    subst (λ d. d + level_of c.in-Item.bit ≤ g.V.P.Number.Word.width) (sym c.depth-depth.ensures) ((top_of _ _ _ _ _ _ c.in-Some.level c.in-Some.ensures.items c.requires.usable).view.pairs _ _ step.2).0.len_fits
+    subst (λ d. d + level_of c.in-Item.bit ≤ g.V.P.Number.Word.width) (sym c.depth-depth.ensures) (((g.met.V.TrieView c.lifetimes (search rules)).laws _ (top_of _ _ _ _ _ _ c.in-Some.level c.in-Some.ensures.items c.requires.usable).usable).pairs _ _ step.2).0.len_fits
 
 pub returns-then-spot-eq64-clause-less : goal.returns-then-spot-eq64-clause-less
 returns-then-spot-eq64-clause-less g c = work_popped g.V.P.Number.Word.width (λ l. g.V.TrieView.told l.view) (λ l. l.spot) c.args.levels.now.items _ c.in-Some.level c.in-Some.ensures.items
@@ -108,27 +105,27 @@ returns-then-spot-eq64-clause-less g c = work_popped g.V.P.Number.Word.width (λ
 pub returns-in-Nothing-clause-less : goal.returns-in-Nothing-clause-less
 returns-in-Nothing-clause-less g c =
     let top = (top_of _ _ _ _ _ _ c.in-Some.level c.in-Some.ensures.items c.requires.usable) in
-    work_on g.V.P.Number.Word.width (λ l. g.V.TrieView.told l.view) (λ l. l.spot) c.args.levels.now.items _ _ c.in-Some.level _ c.in-Some.ensures.items c.put.ensures.items top.first (below c.in-Some.level.spot top.last c.if-spot-eq64.false) c.next_spot.ensures.next (ap (λ v. (g.V.TrieView.told v).place) (rw c.in-Nothing.is at c.in_ok-take.ensures.step))
+    work_on g.V.P.Number.Word.width (λ l. g.V.TrieView.told l.view) (λ l. l.spot) c.args.levels.now.items _ _ c.in-Some.level _ c.in-Some.ensures.items c.put.ensures.items top.first (below c.in-Some.level.spot top.last c.if-spot-eq64.false) c.next_spot.ensures.next (let step = rw c.in-Nothing.is at c.in_ok-take.ensures.step in ap (λ v. (g.V.TrieView.told v).place) step.0)
 
 pub returns-in-Child-clause-less : goal.returns-in-Child-clause-less
 returns-in-Child-clause-less g c =
     let top = (top_of _ _ _ _ _ _ c.in-Some.level c.in-Some.ensures.items c.requires.usable) in
     let step = rw c.in-Child.is at c.in_ok-take.ensures.step in
-    work_down g.V.P.Number.Word.width (λ l. g.V.TrieView.told l.view) (λ l. l.spot) c.args.levels.now.items _ _ _ c.in-Some.level _ _ c.in-Child.field-0 c.in-Some.ensures.items c.put-in-Child.ensures.items c.put-in-Child-2.ensures.items top.view step.2 top.first (below c.in-Some.level.spot top.last c.if-spot-eq64.false) c.next_spot.ensures.next refl step.5.place step.4.place
+    work_down g.V.P.Number.Word.width (λ l. g.V.TrieView.told l.view) (λ l. l.spot) c.args.levels.now.items _ _ _ c.in-Some.level _ _ c.in-Child.field-0 c.in-Some.ensures.items c.put-in-Child.ensures.items c.put-in-Child-2.ensures.items ((g.met.V.TrieView c.lifetimes (search rules)).laws _ (top_of _ _ _ _ _ _ c.in-Some.level c.in-Some.ensures.items c.requires.usable).usable) step.2 top.first (below c.in-Some.level.spot top.last c.if-spot-eq64.false) c.next_spot.ensures.next refl step.5.place step.4.place
 
 pub put-requires : goal.put-requires
-put-requires g c = (below_top g.V.P.Number.Word.width (λ l. g.V.TrieView.told l.view) c.args.levels.now.items _ c.in-Some.level (vec_capacity c.args.levels.now) _ c.in-Some.ensures.items c.in-Some.ensures.capacity (top_of _ _ _ _ _ _ c.in-Some.level c.in-Some.ensures.items c.requires.usable).view c.requires.room).space
+put-requires g c = (below_top g.V.P.Number.Word.width (λ l. g.V.TrieView.told l.view) c.args.levels.now.items _ c.in-Some.level (vec_capacity c.args.levels.now) _ c.in-Some.ensures.items c.in-Some.ensures.capacity ((g.met.V.TrieView c.lifetimes (search rules)).laws _ (top_of _ _ _ _ _ _ c.in-Some.level c.in-Some.ensures.items c.requires.usable).usable) c.requires.room).space
 
 pub put-requires-in-Item : goal.put-requires-in-Item
-put-requires-in-Item g c = (below_top g.V.P.Number.Word.width (λ l. g.V.TrieView.told l.view) c.args.levels.now.items _ c.in-Some.level (vec_capacity c.args.levels.now) _ c.in-Some.ensures.items c.in-Some.ensures.capacity (top_of _ _ _ _ _ _ c.in-Some.level c.in-Some.ensures.items c.requires.usable).view c.requires.room).space
+put-requires-in-Item g c = (below_top g.V.P.Number.Word.width (λ l. g.V.TrieView.told l.view) c.args.levels.now.items _ c.in-Some.level (vec_capacity c.args.levels.now) _ c.in-Some.ensures.items c.in-Some.ensures.capacity ((g.met.V.TrieView c.lifetimes (search rules)).laws _ (top_of _ _ _ _ _ _ c.in-Some.level c.in-Some.ensures.items c.requires.usable).usable) c.requires.room).space
 
 pub put-requires-in-Child : goal.put-requires-in-Child
-put-requires-in-Child g c = (below_top g.V.P.Number.Word.width (λ l. g.V.TrieView.told l.view) c.args.levels.now.items _ c.in-Some.level (vec_capacity c.args.levels.now) _ c.in-Some.ensures.items c.in-Some.ensures.capacity (top_of _ _ _ _ _ _ c.in-Some.level c.in-Some.ensures.items c.requires.usable).view c.requires.room).space
+put-requires-in-Child g c = (below_top g.V.P.Number.Word.width (λ l. g.V.TrieView.told l.view) c.args.levels.now.items _ c.in-Some.level (vec_capacity c.args.levels.now) _ c.in-Some.ensures.items c.in-Some.ensures.capacity ((g.met.V.TrieView c.lifetimes (search rules)).laws _ (top_of _ _ _ _ _ _ c.in-Some.level c.in-Some.ensures.items c.requires.usable).usable) c.requires.room).space
 
 pub put-requires-in-Child-2 : goal.put-requires-in-Child-2
 put-requires-in-Child-2 g c =
     let step = rw c.in-Child.is at c.in_ok-take.ensures.step in
-    room_for_child g.V.P.Number.Word.width (λ l. g.V.TrieView.told l.view) _ _ c.in-Some.level _ c.in-Child.field-0 _ _ (below_top g.V.P.Number.Word.width (λ l. g.V.TrieView.told l.view) c.args.levels.now.items _ c.in-Some.level (vec_capacity c.args.levels.now) _ c.in-Some.ensures.items c.in-Some.ensures.capacity (top_of _ _ _ _ _ _ c.in-Some.level c.in-Some.ensures.items c.requires.usable).view c.requires.room) (top_of _ _ _ _ _ _ c.in-Some.level c.in-Some.ensures.items c.requires.usable).view step.2 c.put-in-Child.ensures.items c.put-in-Child.ensures.capacity
+    room_for_child g.V.P.Number.Word.width (λ l. g.V.TrieView.told l.view) _ _ c.in-Some.level _ c.in-Child.field-0 _ _ (below_top g.V.P.Number.Word.width (λ l. g.V.TrieView.told l.view) c.args.levels.now.items _ c.in-Some.level (vec_capacity c.args.levels.now) _ c.in-Some.ensures.items c.in-Some.ensures.capacity ((g.met.V.TrieView c.lifetimes (search rules)).laws _ (top_of _ _ _ _ _ _ c.in-Some.level c.in-Some.ensures.items c.requires.usable).usable) c.requires.room) ((g.met.V.TrieView c.lifetimes (search rules)).laws _ (top_of _ _ _ _ _ _ c.in-Some.level c.in-Some.ensures.items c.requires.usable).usable) step.2 c.put-in-Child.ensures.items c.put-in-Child.ensures.capacity
 
 pub returns-in_default-clause-room : goal.returns-in_default-clause-room
 returns-in_default-clause-room g c =
@@ -138,20 +135,20 @@ returns-in_default-clause-room g c =
     room_none g.V.P.Number.Word.width (λ l. g.V.TrieView.told l.view) c.pop.new.self.items (vec_capacity c.pop.new.self) (let k = c.in_default.ensures.capacity in omega (arith, k, r)) (none_counted c.pop.new.self.items 0 e refl)
 
 pub returns-then-spot-eq64-clause-room : goal.returns-then-spot-eq64-clause-room
-returns-then-spot-eq64-clause-room g c = (below_top g.V.P.Number.Word.width (λ l. g.V.TrieView.told l.view) c.args.levels.now.items _ c.in-Some.level (vec_capacity c.args.levels.now) _ c.in-Some.ensures.items c.in-Some.ensures.capacity (top_of _ _ _ _ _ _ c.in-Some.level c.in-Some.ensures.items c.requires.usable).view c.requires.room).roomy
+returns-then-spot-eq64-clause-room g c = (below_top g.V.P.Number.Word.width (λ l. g.V.TrieView.told l.view) c.args.levels.now.items _ c.in-Some.level (vec_capacity c.args.levels.now) _ c.in-Some.ensures.items c.in-Some.ensures.capacity ((g.met.V.TrieView c.lifetimes (search rules)).laws _ (top_of _ _ _ _ _ _ c.in-Some.level c.in-Some.ensures.items c.requires.usable).usable) c.requires.room).roomy
 
 pub returns-in-Nothing-clause-room : goal.returns-in-Nothing-clause-room
-returns-in-Nothing-clause-room g c = room_on g.V.P.Number.Word.width (λ l. g.V.TrieView.told l.view) _ _ c.in-Some.level _ _ _ (below_top g.V.P.Number.Word.width (λ l. g.V.TrieView.told l.view) c.args.levels.now.items _ c.in-Some.level (vec_capacity c.args.levels.now) _ c.in-Some.ensures.items c.in-Some.ensures.capacity (top_of _ _ _ _ _ _ c.in-Some.level c.in-Some.ensures.items c.requires.usable).view c.requires.room) c.put.ensures.items c.put.ensures.capacity (ap (λ v. (g.V.TrieView.told v).place) (rw c.in-Nothing.is at c.in_ok-take.ensures.step))
+returns-in-Nothing-clause-room g c = room_on g.V.P.Number.Word.width (λ l. g.V.TrieView.told l.view) _ _ c.in-Some.level _ _ _ (below_top g.V.P.Number.Word.width (λ l. g.V.TrieView.told l.view) c.args.levels.now.items _ c.in-Some.level (vec_capacity c.args.levels.now) _ c.in-Some.ensures.items c.in-Some.ensures.capacity ((g.met.V.TrieView c.lifetimes (search rules)).laws _ (top_of _ _ _ _ _ _ c.in-Some.level c.in-Some.ensures.items c.requires.usable).usable) c.requires.room) c.put.ensures.items c.put.ensures.capacity (let step = rw c.in-Nothing.is at c.in_ok-take.ensures.step in ap (λ v. (g.V.TrieView.told v).place) step.0)
 
 pub returns-in-Item-clause-room : goal.returns-in-Item-clause-room
 returns-in-Item-clause-room g c =
     let step = rw c.in-Item.is at c.in_ok-take.ensures.step in
-    room_on g.V.P.Number.Word.width (λ l. g.V.TrieView.told l.view) _ _ c.in-Some.level _ _ _ (below_top g.V.P.Number.Word.width (λ l. g.V.TrieView.told l.view) c.args.levels.now.items _ c.in-Some.level (vec_capacity c.args.levels.now) _ c.in-Some.ensures.items c.in-Some.ensures.capacity (top_of _ _ _ _ _ _ c.in-Some.level c.in-Some.ensures.items c.requires.usable).view c.requires.room) c.put-in-Item.ensures.items c.put-in-Item.ensures.capacity step.3.place
+    room_on g.V.P.Number.Word.width (λ l. g.V.TrieView.told l.view) _ _ c.in-Some.level _ _ _ (below_top g.V.P.Number.Word.width (λ l. g.V.TrieView.told l.view) c.args.levels.now.items _ c.in-Some.level (vec_capacity c.args.levels.now) _ c.in-Some.ensures.items c.in-Some.ensures.capacity ((g.met.V.TrieView c.lifetimes (search rules)).laws _ (top_of _ _ _ _ _ _ c.in-Some.level c.in-Some.ensures.items c.requires.usable).usable) c.requires.room) c.put-in-Item.ensures.items c.put-in-Item.ensures.capacity step.3.place
 
 pub returns-in-Child-clause-room : goal.returns-in-Child-clause-room
 returns-in-Child-clause-room g c =
     let step = rw c.in-Child.is at c.in_ok-take.ensures.step in
-    room_down g.V.P.Number.Word.width (λ l. g.V.TrieView.told l.view) _ _ _ c.in-Some.level _ _ c.in-Child.field-0 _ _ _ (below_top g.V.P.Number.Word.width (λ l. g.V.TrieView.told l.view) c.args.levels.now.items _ c.in-Some.level (vec_capacity c.args.levels.now) _ c.in-Some.ensures.items c.in-Some.ensures.capacity (top_of _ _ _ _ _ _ c.in-Some.level c.in-Some.ensures.items c.requires.usable).view c.requires.room) c.put-in-Child.ensures.items c.put-in-Child-2.ensures.items c.put-in-Child.ensures.capacity c.put-in-Child-2.ensures.capacity step.5.place step.4.place
+    room_down g.V.P.Number.Word.width (λ l. g.V.TrieView.told l.view) _ _ _ c.in-Some.level _ _ c.in-Child.field-0 _ _ _ (below_top g.V.P.Number.Word.width (λ l. g.V.TrieView.told l.view) c.args.levels.now.items _ c.in-Some.level (vec_capacity c.args.levels.now) _ c.in-Some.ensures.items c.in-Some.ensures.capacity ((g.met.V.TrieView c.lifetimes (search rules)).laws _ (top_of _ _ _ _ _ _ c.in-Some.level c.in-Some.ensures.items c.requires.usable).usable) c.requires.room) c.put-in-Child.ensures.items c.put-in-Child-2.ensures.items c.put-in-Child.ensures.capacity c.put-in-Child-2.ensures.capacity step.5.place step.4.place
 
 pub returns-in_default-clause-stays : goal.returns-in_default-clause-stays
 returns-in_default-clause-stays g c = λ all.
@@ -163,7 +160,7 @@ pub returns-then-spot-eq64-clause-stays : goal.returns-then-spot-eq64-clause-sta
 returns-then-spot-eq64-clause-stays g c = λ all. (frugal_split (λ l. g.V.TrieView.told l.view) c.args.levels.now.items _ c.in-Some.level c.in-Some.ensures.items all).0
 
 pub returns-in-Nothing-clause-stays : goal.returns-in-Nothing-clause-stays
-returns-in-Nothing-clause-stays g c = λ all. frugal_push (λ l. g.V.TrieView.told l.view) _ _ _ c.put.ensures.items (frugal_split (λ l. g.V.TrieView.told l.view) c.args.levels.now.items _ c.in-Some.level c.in-Some.ensures.items all).0 (subst (λ v. IsTrue (g.V.TrieView.told v).frugal) (sym (rw c.in-Nothing.is at c.in_ok-take.ensures.step)) (frugal_split (λ l. g.V.TrieView.told l.view) c.args.levels.now.items _ c.in-Some.level c.in-Some.ensures.items all).1)
+returns-in-Nothing-clause-stays g c = λ all. frugal_push (λ l. g.V.TrieView.told l.view) _ _ _ c.put.ensures.items (frugal_split (λ l. g.V.TrieView.told l.view) c.args.levels.now.items _ c.in-Some.level c.in-Some.ensures.items all).0 (subst (λ v. IsTrue (g.V.TrieView.told v).frugal) (let step = rw c.in-Nothing.is at c.in_ok-take.ensures.step in sym step.0) (frugal_split (λ l. g.V.TrieView.told l.view) c.args.levels.now.items _ c.in-Some.level c.in-Some.ensures.items all).1)
 
 pub returns-in-Item-clause-stays : goal.returns-in-Item-clause-stays
 returns-in-Item-clause-stays g c = λ all.

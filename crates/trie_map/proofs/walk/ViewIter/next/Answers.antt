@@ -1,5 +1,6 @@
 use Rattle.std.proofs.Common.{arith}
 use Rattle.std.specs.Prelude.{vec_capacity}
+use Rattle.trie_model.specs.Walks.{rest}
 use Rattle.trie_model.proofs.RoomLaws.{room_none, frugal_none}
 use Rattle.trie_model.proofs.WalkSteps.{gives_from, walk_empty}
 use Rattle.trie_map.proofs.walk.ViewIter.next.Goals as goal
@@ -12,13 +13,13 @@ moves-preserved g c =
 pub returns-in-Ok-Found-clause-given : goal.returns-in-Ok-Found-clause-given
 returns-in-Ok-Found-clause-given g c =
     let moved = rw c.in-Ok-Found.field-0-is at c.in-Ok-Found.ensures.moved in
-    (gives_from g.V.P.Number.Word.width (λ l. g.V.TrieView.told l.view) c.args.self.now.levels.items c.moves.self.levels.items c.advance.new.levels.items (g.V.P.Place.net c.in-Ok-Found.prefix) (g.V.TrieView.item c.in-Ok-Found.item) c.moves.invariant.1 moved.0, moved.1)
+    (gives_from g.V.P.Number.Word.width (λ l. rest g.V.P.Number.Word.width (g.V.TrieView.told l.view) l.spot) c.args.self.now.levels.items c.moves.self.levels.items c.advance.new.levels.items (g.V.P.Place.net c.in-Ok-Found.prefix) (g.V.TrieView.item c.in-Ok-Found.item) c.moves.invariant.1 moved.0, moved.1)
 
 pub returns-in-Err-clause-usable : goal.returns-in-Err-clause-usable
-returns-in-Err-clause-usable g c = record { levels = (walk_empty (λ l. g.V.TrieView.valid l.view) (λ l. g.V.TrieView.told l.view) (λ l. l.spot) g.V.P.Number.Word.width c.clear.new.self.items c.clear.ensures.items).0; room = room_none g.V.P.Number.Word.width (λ l. g.V.TrieView.told l.view) c.clear.new.self.items (vec_capacity c.clear.new.self) (let r = c.moves.invariant.0.room.room in let a = c.advance.ensures.capacity in let k = c.clear.ensures.capacity in omega (arith, r, a, k)) c.clear.ensures.items }
+returns-in-Err-clause-usable g c = record { levels = (walk_empty (λ l. g.V.TrieView.valid l.view) (λ l. rest g.V.P.Number.Word.width (g.V.TrieView.told l.view) l.spot) (λ l. l.spot) g.V.P.Number.Word.width c.clear.new.self.items c.clear.ensures.items).0; room = room_none g.V.P.Number.Word.width (λ l. g.V.TrieView.told l.view) c.clear.new.self.items (vec_capacity c.clear.new.self) (let r = c.moves.invariant.0.room.room in let a = c.advance.ensures.capacity in let k = c.clear.ensures.capacity in omega (arith, r, a, k)) c.clear.ensures.items }
 
 pub returns-in-Err-clause-given : goal.returns-in-Err-clause-given
-returns-in-Err-clause-given g c = (walk_empty (λ l. g.V.TrieView.valid l.view) (λ l. g.V.TrieView.told l.view) (λ l. l.spot) g.V.P.Number.Word.width c.clear.new.self.items c.clear.ensures.items).1
+returns-in-Err-clause-given g c = (walk_empty (λ l. g.V.TrieView.valid l.view) (λ l. rest g.V.P.Number.Word.width (g.V.TrieView.told l.view) l.spot) (λ l. l.spot) g.V.P.Number.Word.width c.clear.new.self.items c.clear.ensures.items).1
 
 pub returns-in-Err-clause-frugal : goal.returns-in-Err-clause-frugal
 returns-in-Err-clause-frugal g c = λ all. c.in-Err.ensures.frugal (c.moves.invariant.2 all)
