@@ -6,7 +6,7 @@ ghost use Rattle.trie_map.specs.Walking.{CanWalk, IsFrugalWalk, ToCome};
 ghost use Rattle.trie_model.specs.Inside.{LiesIn, SomeIn};
 ghost use Rattle.trie_model.specs.Maps.{LongestMatch, inserted, missing, present, removed, value_at};
 ghost use Rattle.trie_model.specs.Nets.{Net};
-ghost use Rattle.trie_model.specs.Walks.{Within};
+ghost use Rattle.trie_model.specs.Walks.{From, Within};
 
 use crate::node::{Node, Steps, empty, find, longest, put, take};
 use crate::prefix::Place;
@@ -150,6 +150,21 @@ impl<P: Place, T> PrefixMap<P, T> {
         ensures whole { IfOk result (λ walk. (n : Net) (x : T) → ToCome ⟦<TrieRef<'a, P, T> as TrieView<'a>>⟧.told P.Number.width walk n x ↔ Within self.now n x) }
     {
         ViewIter::new(self.alloc, self.view())
+    }
+
+    /// The walk over the entries from a prefix on: that of the prefix itself too where `inclusive`, and
+    /// those that come behind it in the order.
+    pub fn iter_from<'a>(
+        &'a self,
+        prefix: &P,
+        inclusive: bool,
+    ) -> Result<ViewIter<TrieRef<'a, P, T>>, NoMemory>
+        requires { (P.net prefix.now).len ≤ P.Number.width }
+        ensures usable { IfOk result (λ walk. CanWalk ⟦<TrieRef<'a, P, T> as TrieView<'a>>⟧.valid ⟦<TrieRef<'a, P, T> as TrieView<'a>>⟧.told P.Number.width walk) }
+        ensures frugal { IfOk result (λ walk. IsFrugalWalk ⟦<TrieRef<'a, P, T> as TrieView<'a>>⟧.told walk) }
+        ensures rest { IfOk result (λ walk. (n : Net) (x : T) → ToCome ⟦<TrieRef<'a, P, T> as TrieView<'a>>⟧.told P.Number.width walk n x ↔ (Within self.now n x × From P.Number.width inclusive (P.net prefix.now) n)) }
+    {
+        ViewIter::starting(self.alloc, self.view(), prefix, inclusive)
     }
 }
 

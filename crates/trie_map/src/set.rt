@@ -5,7 +5,7 @@ ghost use Rattle.trie_map.specs.Walking.{CanWalk, IsFrugalWalk, ToCome};
 ghost use Rattle.trie_model.specs.Inside.{LiesIn, SomeIn};
 ghost use Rattle.trie_model.specs.Maps.{inserted, removed, value_at};
 ghost use Rattle.trie_model.specs.Nets.{Net};
-ghost use Rattle.trie_model.specs.Walks.{Within};
+ghost use Rattle.trie_model.specs.Walks.{From, Within};
 
 use crate::map::PrefixMap;
 use crate::node::Steps;
@@ -104,6 +104,21 @@ impl<P: Place> PrefixSet<P> {
         ensures whole { IfOk result (λ walk. (n : Net) (x : Unit {0}) → ToCome ⟦<TrieRef<'a, P, ()> as TrieView<'a>>⟧.told P.Number.width walk n x ↔ Within self.now n x) }
     {
         self.map.iter()
+    }
+
+    /// The walk over the prefixes from a prefix on: the prefix itself too where `inclusive`, and
+    /// those that come behind it in the order.
+    pub fn iter_from<'a>(
+        &'a self,
+        prefix: &P,
+        inclusive: bool,
+    ) -> Result<ViewIter<TrieRef<'a, P, ()>>, NoMemory>
+        requires { (P.net prefix.now).len ≤ P.Number.width }
+        ensures usable { IfOk result (λ walk. CanWalk ⟦<TrieRef<'a, P, ()> as TrieView<'a>>⟧.valid ⟦<TrieRef<'a, P, ()> as TrieView<'a>>⟧.told P.Number.width walk) }
+        ensures frugal { IfOk result (λ walk. IsFrugalWalk ⟦<TrieRef<'a, P, ()> as TrieView<'a>>⟧.told walk) }
+        ensures rest { IfOk result (λ walk. (n : Net) (x : Unit {0}) → ToCome ⟦<TrieRef<'a, P, ()> as TrieView<'a>>⟧.told P.Number.width walk n x ↔ (Within self.now n x × From P.Number.width inclusive (P.net prefix.now) n)) }
+    {
+        self.map.iter_from(prefix, inclusive)
     }
 
     /// Adds a prefix, and says whether it is new. A refusal changes nothing, and hands the prefix back.

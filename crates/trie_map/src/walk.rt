@@ -1,14 +1,14 @@
 //! The walk over a view, which gives its pairs in the order of their prefixes.
 
-ghost use Rattle.std.specs.Prelude.{◌≡◌, ◌↔◌, ℕ, ◌+◌, ◌<◌, ◌≤◌, ◌++◌, ◌∷◌, [], length, vec_capacity, IfOk, IfSome, IsOk, IsTrue};
+ghost use Rattle.std.specs.Prelude.{◌≡◌, ◌↔◌, ℕ, ◌+◌, ◌*◌, ◌/◌, ◌^◌, ◌<◌, ◌≤◌, ◌⊎◌, ◌++◌, ◌∷◌, [], length, vec_capacity, IfOk, IfSome, IsOk, IsTrue, true, cond};
 ghost use Rattle.std.specs.Result.{OnOk};
 ghost use Rattle.trie_map.specs.Moves.{StepOf, MoveOf, Lessens};
 ghost use Rattle.trie_map.specs.Walking.{CanWalk, IsFrugalWalk, NextOf, ToCome};
-ghost use Rattle.trie_model.specs.Heap.{next_spot};
-ghost use Rattle.trie_model.specs.Nets.{Net};
+ghost use Rattle.trie_model.specs.Heap.{next_spot, order_key};
+ghost use Rattle.trie_model.specs.Nets.{Net, IsNet, covers};
 ghost use Rattle.trie_model.specs.Walks.{AllFrugal, From, Left, Roomy, WalkOk, rest};
 
-use crate::masks::reconstruct_prefix;
+use crate::masks::{child_bit, data_bit, reconstruct_prefix};
 use crate::node::{Start, Steps};
 use crate::prefix::{Place, Word};
 use crate::view::TrieView;
@@ -49,6 +49,17 @@ fn next_spot(spot: u32) -> u32
     } else {
         64
     }
+}
+
+/// The spot itself, or the one after it.
+fn first_spot(spot: u32, inclusive: bool) -> u32
+    requires first { 1 ≤ spot }
+    requires last { spot < 64 }
+    ensures is { result ≡ cond inclusive spot (next_spot spot) }
+    ensures first { 1 ≤ result }
+    ensures last { result ≤ 64 }
+{
+    if inclusive { spot } else { next_spot(spot) }
 }
 
 /// Takes what stands at the spot out of the view.
@@ -153,6 +164,90 @@ fn advance<'a, V: TrieView<'a>, S>(
     }
 }
 
+/// Puts the levels on the way down to a prefix on the stack, each at the first spot that comes behind
+/// the prefix.
+fn descend<'a, V: TrieView<'a>, S>(
+    levels: &mut Vec<Level<V>>,
+    mut view: V,
+    key: <V::P as Place>::Number,
+    len: u32,
+    inclusive: bool,
+    steps: &mut Steps<S>,
+) -> Result<(), NoMemory>
+    requires usable { V.valid view }
+    requires net { IsNet V.P.Number.width (record { bits = V.P.Number.number key; len = len }) }
+    requires inside { covers V.P.Number.width (V.told view).place (record { bits = V.P.Number.number key; len = len }) ≡ true }
+    requires stack { WalkOk (λ l. V.valid l.view) (λ l. rest V.P.Number.width (V.told l.view) l.spot) (λ l. l.spot) V.P.Number.width levels.old.items }
+    requires first { (n m : Net) (x y : V.Item) → (V.told view).at n x → Left (λ l. rest V.P.Number.width (V.told l.view) l.spot) levels.old.items m y → order_key V.P.Number.width n < order_key V.P.Number.width m }
+    requires room { Roomy V.P.Number.width (λ l. V.told l.view) levels.old.items (vec_capacity levels.old) }
+    requires deep { 5 * length levels.old.items ≤ (V.told view).place.len }
+    ensures usable { OnOk result (WalkOk (λ l. V.valid l.view) (λ l. rest V.P.Number.width (V.told l.view) l.spot) (λ l. l.spot) V.P.Number.width levels.new.items) }
+    ensures room { OnOk result (Roomy V.P.Number.width (λ l. V.told l.view) levels.new.items (vec_capacity levels.new)) }
+    ensures left { OnOk result ((n : Net) (x : V.Item) → Left (λ l. rest V.P.Number.width (V.told l.view) l.spot) levels.new.items n x ↔ (((V.told view).at n x × From V.P.Number.width inclusive (record { bits = V.P.Number.number key; len = len }) n) ⊎ Left (λ l. rest V.P.Number.width (V.told l.view) l.spot) levels.old.items n x)) }
+    ensures frugal { IsTrue (V.told view).frugal → IsOk result }
+    ensures stays { AllFrugal (λ l. V.told l.view) levels.old.items → IsTrue (V.told view).frugal → OnOk result (AllFrugal (λ l. V.told l.view) levels.new.items) }
+{
+    'down: loop {
+        let depth = view.depth();
+        if len - depth < 5 {
+            let spot = first_spot(data_bit(depth, key, len) + 1, inclusive);
+            put(levels, Level { view, spot });
+            return Ok(());
+        }
+        let bit = child_bit(depth, key);
+        let spot = next_spot(32 + bit);
+        if view.child_bitmap() >> bit & 1 == 0 {
+            put(levels, Level { view, spot });
+            return Ok(());
+        }
+        let child = view.get_child(bit, steps)?;
+        put(levels, Level { view, spot });
+        view = child;
+    }
+}
+
+/// Whether a prefix lies in a place.
+fn lies_in<W: Word>(place: W, place_len: u32, key: W, len: u32) -> bool
+    requires fits { W.number key < 2 ^ W.width }
+    requires len { place_len ≤ W.width }
+    ensures { IsTrue result ↔ (covers W.width (record { bits = W.number place; len = place_len }) (record { bits = W.number key; len = len }) ≡ true) }
+{
+    if len < place_len {
+        return false;
+    }
+    let first = key.first_bits(place_len);
+    first.is_at_most(place) && place.is_at_most(first)
+}
+
+/// Puts on an empty stack what a view has from a prefix on.
+fn enter<'a, V: TrieView<'a>, S>(
+    levels: &mut Vec<Level<V>>,
+    view: V,
+    key: <V::P as Place>::Number,
+    len: u32,
+    inclusive: bool,
+    steps: &mut Steps<S>,
+) -> Result<(), NoMemory>
+    requires usable { V.valid view }
+    requires net { IsNet V.P.Number.width (record { bits = V.P.Number.number key; len = len }) }
+    requires empty { levels.old.items ≡ [] }
+    requires room { V.P.Number.width / 5 + 1 ≤ vec_capacity levels.old }
+    ensures usable { OnOk result (WalkOk (λ l. V.valid l.view) (λ l. rest V.P.Number.width (V.told l.view) l.spot) (λ l. l.spot) V.P.Number.width levels.new.items) }
+    ensures room { OnOk result (Roomy V.P.Number.width (λ l. V.told l.view) levels.new.items (vec_capacity levels.new)) }
+    ensures left { OnOk result ((n : Net) (x : V.Item) → Left (λ l. rest V.P.Number.width (V.told l.view) l.spot) levels.new.items n x ↔ ((V.told view).at n x × From V.P.Number.width inclusive (record { bits = V.P.Number.number key; len = len }) n)) }
+    ensures stays { IsTrue (V.told view).frugal → OnOk result (AllFrugal (λ l. V.told l.view) levels.new.items) }
+{
+    let place = view.key();
+    if lies_in(place, view.prefix_len(), key, len) {
+        return descend(levels, view, key, len, inclusive, steps);
+    }
+    if !key.is_at_most(place) {
+        return Ok(());
+    }
+    put(levels, Level { view, spot: 1 });
+    Ok(())
+}
+
 /// The walk over a view: its pairs in the order of their prefixes, as in the crate prefix-trie.
 #[derive(Drop)]
 pub struct ViewIter<V> {
@@ -177,6 +272,31 @@ impl<'a, V: TrieView<'a>> ViewIter<V> {
             levels,
             steps: Steps::start(),
         })
+    }
+
+    /// The walk over what a view has from a prefix on: the prefix itself too where `inclusive`, and what
+    /// comes behind it in the order. It takes the room that the walk needs.
+    pub fn starting(
+        alloc: Global,
+        view: V,
+        prefix: &V::P,
+        inclusive: bool,
+    ) -> Result<Self, NoMemory>
+        requires usable { V.valid view }
+        requires len { (V.P.net prefix.now).len ≤ V.P.Number.width }
+        ensures usable { IfOk result (λ walk. CanWalk V.valid V.told V.P.Number.width walk) }
+        ensures frugal { IfOk result (λ walk. IsTrue (V.told view).frugal → IsFrugalWalk V.told walk) }
+        ensures rest { IfOk result (λ walk. (n : Net) (x : V.Item) → ToCome V.told V.P.Number.width walk n x ↔ ((V.told view).at n x × From V.P.Number.width inclusive (V.P.net prefix.now) n)) }
+    {
+        let mut levels = Vec::with_capacity(
+            alloc,
+            (<V::P as Place>::Number::bits() / 5 + 1) as usize,
+        )?;
+        let mut steps = Steps::start();
+        let key = prefix.number();
+        let len = prefix.length() as u32;
+        enter(&mut levels, view, key, len, inclusive, &mut steps)?;
+        Ok(ViewIter { levels, steps })
     }
 
     /// The next pair. Its prefix has no host bits. After a refusal nothing comes.

@@ -86,7 +86,7 @@ view_empty {X} w t ok a b n x h = by (less_or n.len (depth_at t.place.len + 5))
         no_bit _ _ a (ok.untold (data_bit_of w d n.bits n.len) x (short_small w d n lt) (subst (λ m. t.at m x) (sym e) h))
     by (inr long) = no_bit _ _ b (ok.below n x h long)
 
-depth_low : (n : ℕ) → n + 1 ≤ depth_at n + 5
+pub depth_low : (n : ℕ) → n + 1 ≤ depth_at n + 5
 depth_low n = omega arith
 
 -- a view of a full node has a pair where it has a bit

@@ -1,4 +1,5 @@
 pub mod CountLaws
+pub mod DownLaws
 pub mod FullLaws
 pub mod HeapLaws
 pub mod InsideLaws

@@ -15,7 +15,7 @@ unfolding EachFrom
 each_join Q i [] l h q = (subst (λ k. Q k l) (let e : i + 0 ≡ i = omega arith in e) q, tt)
 each_join Q i (a ∷ ls) l h q = (h.0, each_join Q (i + 1) ls l h.1 (subst (λ k. Q k l) (omega arith) q))
 
-length_more : {L : Type 0} (ls : List L) (l : L) → length (ls ++ l ∷ []) ≡ length ls + 1
+pub length_more : {L : Type 0} (ls : List L) (l : L) → length (ls ++ l ∷ []) ≡ length ls + 1
 length_more [] l = refl
 length_more (a ∷ ls) l = let e = length_more ls l in omega (arith, e)
 

@@ -1,9 +1,10 @@
 -- A walk that starts at a prefix: what its levels have still to give.
-use Rattle.std.proofs.Common.{◌≡◌, ◌≢◌, ℕ, ◌+◌, ◌-◌, ◌*◌, ◌/◌, ◌^◌, ◌<◌, ◌≤◌, ◌∙◌, sym, ap, subst, suc, zero, refl, arith, Bool, true, false, cond, leb, eqb, List, [], ◌∷◌, ◌++◌, length, inl, inr}
-use Rattle.std.specs.Prelude.{◌⊎◌, ◌↔◌, IsTrue}
+use Rattle.std.proofs.Common.{◌≡◌, ◌≢◌, ℕ, ◌+◌, ◌-◌, ◌*◌, ◌/◌, ◌^◌, ◌<◌, ◌≤◌, ◌∙◌, sym, ap, subst, suc, zero, refl, arith, Bool, true, false, cond, leb, eqb, bit_and, List, [], ◌∷◌, ◌++◌, length, inl, inr}
+use Rattle.std.specs.Prelude.{◌⊎◌, ◌↔◌, Result, Ok, Err, OnOk}
 use Rattle.std.specs.Int.{bit_at}
 use Rattle.std.proofs.lemmas.Bool.{le-leb, eq-eqb}
-use Rattle.std.proofs.lemmas.Nat.{pow_pos, pow-add}
+use Rattle.std.proofs.lemmas.Nat.{pow_pos, pow-add, and_mask}
+use Rattle.std.proofs.lemmas.Nat.Bits.{bit_at-lt}
 use Rattle.std.proofs.Math.Nat.{add-mul, div-mul-le_self, lt-div-mul-add, mul-le-mul_right, mul-div_cancel, mul_assoc, mul_comm}
 use Rattle.trie_model.specs.Nets.{Net, IsNet, covers, masked}
 use Rattle.trie_model.specs.Heap.{rank_at, bits_toward, spot_of, data_bit_of, next_spot, order_key}
@@ -237,3 +238,24 @@ room_below w tell ls l capacity view room deep =
     let fits = view.place_ok.len_fits in
     let r = room.room in
     record { roomy = room; deep = deep; fits = fits; space = omega (arith, deep, fits, r) }
+
+-- ---- in the form of the code
+
+pub low_depth : {X : Type 0} (w : ℕ) (t : Told X) (net : Net) (depth : ℕ) → depth ≡ depth_at t.place.len → covers w t.place net ≡ true → depth ≤ net.len
+low_depth w t net depth e inside = let long = covers_len w t.place net inside in let top = depth_le t.place.len in omega (arith, e, long, top)
+
+pub unset_clash : (n m i : ℕ) → n ≡ m → bit_and (n / 2 ^ i) 1 ≡ 0 → bit_at m i ≡ 1 → ⊥
+unset_clash n m i e h s = let off = sym (and_mask (n / 2 ^ i) 1) ∙ h in let on = ap (λ x. bit_at x i) e ∙ s in omega (arith, off, on)
+
+pub set_is : (n m i : ℕ) → n ≡ m → bit_and (n / 2 ^ i) 1 ≢ 0 → bit_at m i ≡ 1
+set_is n m i e h = sym (ap (λ x. bit_at x i) e) ∙ (let small = bit_at-lt n i in let ne : bit_at n i ≢ 0 = λ z. h (and_mask (n / 2 ^ i) 1 ∙ z) in let one : bit_at n i ≡ 1 = omega (arith, small, ne) in one)
+
+pub lies : (w p l k j f : ℕ) → f ≡ masked w k l → l ≤ j → f ≤ p → p ≤ f → covers w (record { bits = p; len = l }) (record { bits = k; len = j }) ≡ true
+lies w p l k j f e le a b = both_hold (leb l j) _ (le-leb l j le) (eq-eqb _ _ (sym e ∙ (let same : f ≡ p = omega (arith, a, b) in same)))
+
+pub lies_back : (w p l k j f : ℕ) → f ≡ masked w k l → covers w (record { bits = p; len = l }) (record { bits = k; len = j }) ≡ true → (f ≤ p) × (p ≤ f)
+lies_back w p l k j f e h = let same = covers_bits w (record { bits = p; len = l }) (record { bits = k; len = j }) h in (omega (arith, same, e), omega (arith, same, e))
+
+pub ok_map : {T E : Type 0} {P Q : Type 0} (r : Result T E) → (P → Q) → OnOk r P → OnOk r Q
+ok_map (Ok x) f h = f h
+ok_map (Err e) f h = h
