@@ -1,8 +1,8 @@
 -- What a walk has still to give, and what it gives next.
-use Rattle.std.specs.Prelude.{◌≡◌, ℕ, Option, Some, None, Result, Ok, Err, vec_capacity}
+use Rattle.std.specs.Prelude.{◌≡◌, ⊤, ℕ, List, [], Option, Some, None, Result, Ok, Err, vec_capacity}
 use Rattle.trie_model.specs.Nets.{Net}
 use Rattle.trie_model.specs.Views.{Told}
-use Rattle.trie_model.specs.Walks.{AllFrugal, Left, Gives, Roomy, WalkOk, rest}
+use Rattle.trie_model.specs.Walks.{AllFrugal, Left, Gives, ListGoesOn, Roomy, WalkOk, rest}
 use Rattle.trie_map.specs.declared.walk.ViewIter.{ViewIter}
 
 -- the walk may go on, and has the room for it
@@ -23,3 +23,9 @@ abbrev pub NextOf : {V P T X E : Type 0} → (V → Told X) → (T → X) → (P
 NextOf {V} {P} {T} {X} tell item net raw w old new None = (n : Net) (x : X) → ToCome tell w old n x → ⊥
 NextOf {V} {P} {T} {X} tell item net raw w old new (Some (Ok p)) = Gives w (λ l. rest w (tell l.view) l.spot) old.levels.items new.levels.items (net p.0) (item p.1) × (raw p.0 ≡ (net p.0).bits)
 NextOf {V} {P} {T} {X} tell item net raw w old new (Some (Err e)) = (n : Net) (x : X) → ToCome tell w new n x → ⊥
+
+-- what the next call gives of the list of what is to come: the end where it is empty, or its first pair, and then the rest is to come
+abbrev pub TakesFirst : {V P T X E : Type 0} → (V → Told X) → (T → X) → (P → Net) → ℕ → ViewIter V → List (Net × X) → Option (Result (P × T) E) → Type 0
+TakesFirst tell item net w new ps None = ps ≡ []
+TakesFirst {V} {P} {T} {X} tell item net w new ps (Some (Ok p)) = (qs : List (Net × X)) × ListGoesOn w (ToCome tell w new) (net p.0) (item p.1) ps qs
+TakesFirst tell item net w new ps (Some (Err e)) = ⊤

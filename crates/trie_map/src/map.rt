@@ -6,7 +6,7 @@ ghost use Rattle.trie_map.specs.Walking.{CanWalk, IsFrugalWalk, ToCome};
 ghost use Rattle.trie_model.specs.Inside.{LiesIn, SomeIn};
 ghost use Rattle.trie_model.specs.Maps.{LongestMatch, inserted, missing, present, removed, value_at};
 ghost use Rattle.trie_model.specs.Nets.{Net};
-ghost use Rattle.trie_model.specs.Walks.{From, Within};
+ghost use Rattle.trie_model.specs.Walks.{From, IsListOf, Within};
 
 use crate::node::{Node, Steps, empty, find, longest, put, take};
 use crate::prefix::Place;
@@ -147,7 +147,7 @@ impl<P: Place, T> PrefixMap<P, T> {
     pub fn iter<'a>(&'a self) -> Result<ViewIter<TrieRef<'a, P, T>>, NoMemory>
         ensures usable { IfOk result (λ walk. CanWalk ⟦<TrieRef<'a, P, T> as TrieView<'a>>⟧.valid ⟦<TrieRef<'a, P, T> as TrieView<'a>>⟧.told P.Number.width walk) }
         ensures frugal { IfOk result (λ walk. IsFrugalWalk ⟦<TrieRef<'a, P, T> as TrieView<'a>>⟧.told walk) }
-        ensures whole { IfOk result (λ walk. (n : Net) (x : T) → ToCome ⟦<TrieRef<'a, P, T> as TrieView<'a>>⟧.told P.Number.width walk n x ↔ Within self.now n x) }
+        ensures list { IfOk result (λ walk. IsListOf P.Number.width (ToCome ⟦<TrieRef<'a, P, T> as TrieView<'a>>⟧.told P.Number.width walk) self.now) }
     {
         ViewIter::new(self.alloc, self.view())
     }

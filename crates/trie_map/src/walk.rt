@@ -1,12 +1,12 @@
 //! The walk over a view, which gives its pairs in the order of their prefixes.
 
-ghost use Rattle.std.specs.Prelude.{◌≡◌, ◌↔◌, ℕ, ◌+◌, ◌*◌, ◌/◌, ◌^◌, ◌<◌, ◌≤◌, ◌⊎◌, ◌++◌, ◌∷◌, [], length, vec_capacity, IfOk, IfSome, IsOk, IsTrue, true, cond};
+ghost use Rattle.std.specs.Prelude.{◌≡◌, ◌↔◌, ℕ, ◌+◌, ◌*◌, ◌/◌, ◌^◌, ◌<◌, ◌≤◌, ◌⊎◌, ◌++◌, ◌∷◌, [], length, vec_capacity, IfOk, IfSome, IsOk, IsTrue, List, true, cond};
 ghost use Rattle.std.specs.Result.{OnOk};
 ghost use Rattle.trie_map.specs.Moves.{StepOf, MoveOf, Lessens};
-ghost use Rattle.trie_map.specs.Walking.{CanWalk, IsFrugalWalk, NextOf, ToCome};
+ghost use Rattle.trie_map.specs.Walking.{CanWalk, IsFrugalWalk, NextOf, TakesFirst, ToCome};
 ghost use Rattle.trie_model.specs.Heap.{next_spot, order_key};
 ghost use Rattle.trie_model.specs.Nets.{Net, IsNet, covers};
-ghost use Rattle.trie_model.specs.Walks.{AllFrugal, From, Left, Roomy, WalkOk, rest};
+ghost use Rattle.trie_model.specs.Walks.{AllFrugal, From, IsListOf, Left, Roomy, WalkOk, rest};
 
 use crate::masks::{child_bit, data_bit, reconstruct_prefix};
 use crate::node::{Start, Steps};
@@ -299,13 +299,16 @@ impl<'a, V: TrieView<'a>> ViewIter<V> {
         Ok(ViewIter { levels, steps })
     }
 
-    /// The next pair. Its prefix has no host bits. After a refusal nothing comes.
+    /// The next pair: the first of the list of what is to come, or none where this list is empty. So a
+    /// whole walk gives the view's list in order, and ends. Its prefix has no host bits. After a refusal
+    /// nothing comes.
     pub fn next(&mut self) -> Option<Result<(V::P, V::T), NoMemory>>
         requires { CanWalk V.valid V.told V.P.Number.width self.old }
         ensures usable { CanWalk V.valid V.told V.P.Number.width self.new }
         ensures frugal { IsFrugalWalk V.told self.old → IfSome result (λ r. IsOk r) }
         ensures stays { IsFrugalWalk V.told self.old → IsFrugalWalk V.told self.new }
         ensures given { NextOf V.told V.item V.P.net V.P.raw V.P.Number.width self.old self.new result }
+        ensures list { (ps : List (Net × V.Item)) → IsListOf V.P.Number.width (ToCome V.told V.P.Number.width self.old) ps → TakesFirst V.told V.item V.P.net V.P.Number.width self.new ps result }
     {
         'moves: loop {
             match advance(&mut self.levels, &mut self.steps) {

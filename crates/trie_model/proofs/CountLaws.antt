@@ -191,7 +191,7 @@ nothing_removed (p ∷ ps) n none = nothing_by n p ps (removed ps n) (same_net n
 
 -- ---- one list
 
-pair_of : {X : Type 0} (p q : Net × X) → p.0 ≡ q.0 → p.1 ≡ q.1 → p ≡ q
+pub pair_of : {X : Type 0} (p q : Net × X) → p.0 ≡ q.0 → p.1 ≡ q.1 → p ≡ q
 pair_of p q e f = λ i. (e i, f i)
 
 -- two lists in order with the same pairs are one

@@ -4,6 +4,7 @@ pub mod FullLaws
 pub mod HeapLaws
 pub mod InsideLaws
 pub mod Levels
+pub mod ListLaws
 pub mod LongestLaws
 pub mod MapLaws
 pub mod MaskLaws

@@ -91,6 +91,11 @@ pub record IsListOf {X : Type 0} (w : ℕ) (at : Net → X → Type 0) (ps : Lis
   pub ascends : Ascends w ps
   pub same : (n : Net) (x : X) → Within ps n x ↔ at n x
 
+-- a list that begins with a pair and goes on with the list of a relation
+pub record ListGoesOn {X : Type 0} (w : ℕ) (at : Net → X → Type 0) (n : Net) (x : X) (ps qs : List (Net × X)) : Type 0 where
+  pub begins : ps ≡ (n, x) ∷ qs
+  pub list : IsListOf w at qs
+
 -- how much walking a level has still to do at most: its spots, and those of each child
 unfoldable pub level_work : {L X : Type 0} → ℕ → (L → Told X) → (L → ℕ) → L → ℕ
 level_work w tell spot l = (197 - rank_at (spot l)) * 2 ^ (8 * ((w - depth_at (tell l).place.len) / 5 + 1)) + 1

@@ -3,6 +3,8 @@ use Rattle.std.specs.Prelude.{vec_capacity}
 use Rattle.trie_model.specs.Walks.{rest}
 use Rattle.trie_model.proofs.RoomLaws.{room_none, frugal_none}
 use Rattle.trie_model.proofs.WalkSteps.{gives_from, walk_empty}
+use Rattle.trie_model.proofs.ListLaws.{list_begins, list_ends}
+use Rattle.trie_map.specs.Walking.{ToCome}
 use Rattle.trie_map.proofs.walk.ViewIter.next.Goals as goal
 
 pub moves-preserved : goal.moves-preserved
@@ -26,3 +28,14 @@ returns-in-Err-clause-frugal g c = λ all. c.in-Err.ensures.frugal (c.moves.inva
 
 pub returns-in-Err-clause-stays : goal.returns-in-Err-clause-stays
 returns-in-Err-clause-stays g c = λ all. frugal_none (λ l. g.V.TrieView.told l.view) c.clear.new.self.items c.clear.ensures.items
+
+pub returns-in-Ok-Found-clause-list : goal.returns-in-Ok-Found-clause-list
+returns-in-Ok-Found-clause-list g c ps is =
+    let moved = rw c.in-Ok-Found.field-0-is at c.in-Ok-Found.ensures.moved in
+    list_begins g.V.P.Number.Word.width (λ l. rest g.V.P.Number.Word.width (g.V.TrieView.told l.view) l.spot) c.args.self.now.levels.items c.advance.new.levels.items (g.V.P.Place.net c.in-Ok-Found.prefix) (g.V.TrieView.item c.in-Ok-Found.item) ps
+    (gives_from g.V.P.Number.Word.width (λ l. rest g.V.P.Number.Word.width (g.V.TrieView.told l.view) l.spot) c.args.self.now.levels.items c.moves.self.levels.items c.advance.new.levels.items (g.V.P.Place.net c.in-Ok-Found.prefix) (g.V.TrieView.item c.in-Ok-Found.item) c.moves.invariant.1 moved.0) is
+
+pub returns-in-Ok-End-clause-list : goal.returns-in-Ok-End-clause-list
+returns-in-Ok-End-clause-list g c ps is =
+    let moved = rw c.in-Ok-End.field-0-is at c.in-Ok-End.ensures.moved in
+    list_ends g.V.P.Number.Word.width (ToCome g.V.TrieView.told g.V.P.Number.Word.width c.args.self.now) ps (λ n x h. moved n x ((c.moves.invariant.1 n x).1 h)) is
