@@ -195,3 +195,38 @@ fn views_count_their_nodes(rt: HostRuntime) -> Result<(), Fail> {
     assert_eq!(rt; steps.count(), 1);
     Ok(())
 }
+
+#[test]
+fn views_and_walks_from_a_prefix(rt: HostRuntime) -> Result<(), Fail> {
+    let mut map: PrefixMap<(u64, u8), u32> = PrefixMap::new(rt.alloc());
+    assert_eq!(rt; map.insert((1 << 59, 5), 1), Ok(None));
+    assert_eq!(rt; map.insert((1 << 54, 10), 2), Ok(None));
+    assert_eq!(rt; map.insert((3 << 54, 64), 3), Ok(None));
+    assert!(rt; map.view_at(&(1 << 63, 1)).is_none());
+    assert!(rt; map.view_at(&(1 << 59, 6)).is_none());
+    let Some(view) = map.view_at(&(0, 5)) else {
+        return Err("entries lie in it".into());
+    };
+    assert_eq!(rt; (view.key(), view.prefix_len()), (0, 5));
+    assert_eq!(rt; (view.data_bitmap(), view.child_bitmap()), (0, 10));
+    let Ok(mut walk) = map.iter_from(&(1 << 54, 10), true) else {
+        return Err("no memory".into());
+    };
+    assert_eq!(rt;
+        walk.next().map(|pair| pair.map(|found| *found.1)),
+        Some(Ok(2))
+    );
+    let Ok(mut walk) = map.iter_from(&(1 << 54, 10), false) else {
+        return Err("no memory".into());
+    };
+    assert_eq!(rt;
+        walk.next().map(|pair| pair.map(|found| *found.1)),
+        Some(Ok(3))
+    );
+    assert_eq!(rt;
+        walk.next().map(|pair| pair.map(|found| *found.1)),
+        Some(Ok(1))
+    );
+    assert!(rt; walk.next().is_none());
+    Ok(())
+}

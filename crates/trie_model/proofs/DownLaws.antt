@@ -1,10 +1,10 @@
 -- A walk that starts at a prefix: the way down to it.
-use Rattle.std.proofs.Common.{◌≡◌, ℕ, ◌+◌, ◌*◌, ◌/◌, ◌<◌, ◌≤◌, ◌∙◌, sym, ap, subst, refl, arith, Bool, true, List, [], ◌∷◌, ◌++◌, length, inl, inr}
+use Rattle.std.proofs.Common.{◌≡◌, ℕ, ◌+◌, ◌*◌, ◌<◌, ◌≤◌, ◌∙◌, sym, ap, subst, refl, arith, Bool, true, List, [], ◌∷◌, ◌++◌, length, inl, inr}
 use Rattle.std.specs.Prelude.{◌⊎◌, ◌↔◌, IsTrue}
 use Rattle.std.specs.Int.{bit_at}
-use Rattle.trie_model.specs.Nets.{Net, IsNet, covers}
+use Rattle.trie_model.specs.Nets.{Net, covers}
 use Rattle.trie_model.specs.Heap.{next_spot, order_key}
-use Rattle.trie_model.specs.Views.{Told, IsView, TookChild, IsChild, depth_at}
+use Rattle.trie_model.specs.Views.{Told, IsView, TookChild, IsChild}
 use Rattle.trie_model.specs.Walks.{Left, LevelOk, WalkOk, Roomy, AllFrugal, From, rest}
 use Rattle.trie_model.proofs.Places.{bit_below}
 use Rattle.trie_model.proofs.WalkLaws.{either, child_first}

@@ -1,5 +1,5 @@
 -- A walk gives the list of what is left, pair by pair.
-use Rattle.std.proofs.Common.{◌≡◌, ◌<◌, ◌∙◌, sym, ap, subst, refl, arith, false, List, [], ◌∷◌, inl, inr}
+use Rattle.std.proofs.Common.{◌≡◌, ◌∙◌, sym, ap, subst, refl, arith, List, [], ◌∷◌, inl, inr}
 use Rattle.std.specs.Prelude.{◌⊎◌, ◌↔◌, ℕ, Result, Ok, Err, IfOk}
 use Rattle.trie_model.specs.Nets.{Net}
 use Rattle.trie_model.specs.Heap.{order_key}
@@ -24,16 +24,19 @@ list_ends w at (p ∷ ps) none is = absurd (none p.0 p.1 ((is.same p.0 p.1).0 (i
 pub list_begins : {L X : Type 0} (w : ℕ) (tell : L → Told X) (old new : List L) (n : Net) (x : X) (ps : List (Net × X)) → Gives w tell old new n x → IsListOf w (Left tell old) ps → (qs : List (Net × X)) × ListGoesOn w (Left tell new) n x ps qs
 unfolding Within Ascends
 list_begins w tell old new n x [] gives is = absurd ((is.same n x).1 gives.had)
-list_begins {L} {X} w tell old new n x (p ∷ ps) gives is = (ps, record {
-  begins = ap (λ z. z ∷ ps) head;
-  list = record {
-    ascends = is.ascends.1;
-    same = λ m y. (
-      (λ h. (gives.others m y).1 ((is.same m y).0 (inr h), not_true (same_net n m) (λ t. let lt = is.ascends.0 m y h in let e = ap (order_key w) (same_back n m t) in let g = ap (λ z. order_key w z.0) head in omega (arith, lt, e, g)))),
-      (λ h. let was = (gives.others m y).0 h in either (λ z. absurd (elim-false (sym was.1 ∙ same_net_is n m (sym (ap (λ q. q.0) head) ∙ z.0)))) (λ z. z) ((is.same m y).1 was.0)),
-    );
-  };
-})
+list_begins {L} {X} w tell old new n x (p ∷ ps) gives is = (
+  ps,
+  record {
+    begins = ap (λ z. z ∷ ps) head;
+    list = record {
+      ascends = is.ascends.1;
+      same = λ m y. (
+        (λ h. (gives.others m y).1 ((is.same m y).0 (inr h), not_true (same_net n m) (λ t. let lt = is.ascends.0 m y h in let e = ap (order_key w) (same_back n m t) in let g = ap (λ z. order_key w z.0) head in omega (arith, lt, e, g)))),
+        (λ h. let was = (gives.others m y).0 h in either (λ z. absurd (elim-false (sym was.1 ∙ same_net_is n m (sym (ap (λ q. q.0) head) ∙ z.0)))) (λ z. z) ((is.same m y).1 was.0)),
+      );
+    };
+  },
+)
   where
     first : ((p.0 ≡ n) × (p.1 ≡ x)) ⊎ Within ps n x → p ≡ (n, x)
     first (inl e) = pair_of p (n, x) e.0 e.1

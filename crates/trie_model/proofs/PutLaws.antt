@@ -1,7 +1,6 @@
 -- What putting an item or a child into a node does.
-use Rattle.std.proofs.Common.{◌≡◌, ◌≢◌, ℕ, ◌+◌, ◌-◌, ◌*◌, ◌/◌, ◌%◌, ◌^◌, ◌<◌, ◌≤◌, ◌∙◌, sym, ap, subst, suc, zero, refl, arith, List, length, Option, Some, None, inl, inr}
+use Rattle.std.proofs.Common.{◌≡◌, ◌≢◌, ℕ, ◌+◌, ◌-◌, ◌*◌, ◌/◌, ◌^◌, ◌<◌, ◌≤◌, ◌∙◌, sym, ap, subst, suc, zero, refl, arith, List, length, Option, Some, None, inl, inr}
 use Rattle.std.specs.Prelude.{Result, Ok, Err, slice_get, get_or, count_ones, ◌↔◌, ◌⊎◌}
-use Rattle.std.proofs.Math.ListN.{set}
 use Rattle.trie_model.specs.Views.{net_of_bit, level_of}
 use Rattle.trie_model.proofs.HeapLaws.{net_back}
 use Rattle.std.specs.Int.{bit_at}

@@ -1,19 +1,19 @@
 -- What a level of a walk has still to give: the pairs of its view from a spot on.
-use Rattle.std.proofs.Common.{◌≡◌, ◌≢◌, ℕ, ◌+◌, ◌-◌, ◌*◌, ◌^◌, ◌<◌, ◌≤◌, ◌∙◌, sym, ap, subst, zero, suc, refl, arith, Bool, true, false, cond, not, ◌&&◌, eqb, leb, min, bit_and, inl, inr}
+use Rattle.std.proofs.Common.{◌≡◌, ◌≢◌, ℕ, ◌+◌, ◌-◌, ◌^◌, ◌<◌, ◌≤◌, ◌∙◌, sym, ap, subst, refl, arith, Bool, true, false, cond, not, ◌&&◌, eqb, leb, min, bit_and, inl, inr}
 use Rattle.std.specs.Prelude.{◌⊎◌, ◌↔◌}
 use Rattle.std.specs.Int.{bit_at}
-use Rattle.std.proofs.lemmas.Bool.{eqb-true, eq-eqb, leb-true, le-leb}
+use Rattle.std.proofs.lemmas.Bool.{eqb-true, leb-true, le-leb}
 use Rattle.std.proofs.lemmas.Nat.{and_le_l}
 use Rattle.std.proofs.lemmas.Nat.Bits.{bit_at_and, bit_at-lt, bit_at_above}
 use Rattle.trie_model.specs.Nets.{Net, covers}
 use Rattle.trie_model.specs.Heap.{rank_at, spot_of, next_spot, all_under, ltb}
-use Rattle.trie_model.specs.Views.{Told, IsView, TookData, TookChild, IsChild, depth_at, data_net, child_net, child_toward, same_net}
+use Rattle.trie_model.specs.Views.{Told, IsView, TookData, TookChild, IsChild, depth_at, data_net, child_net, child_toward}
 use Rattle.trie_model.specs.Walks.{Ahead, Vacant, bits_where, data_from, children_from, rest}
 use Rattle.trie_model.proofs.Places.{and_left, and_right, elim-false, depth_le, level_le, bit_below, covers_len, covers_way, covers_toward, toward_covers}
-use Rattle.trie_model.proofs.HeapLaws.{under, under2, if_then, by_if, lt-ltb, ltb-lt, bit_back}
+use Rattle.trie_model.proofs.HeapLaws.{under, under2, if_then, by_if, ltb-lt, bit_back}
 use Rattle.trie_model.proofs.LongestLaws.{one_both, both_one, cond_is}
 use Rattle.trie_model.proofs.TrieLaws.{same_net_is}
-use Rattle.trie_model.proofs.SlotLaws.{less_or, same_or}
+use Rattle.trie_model.proofs.SlotLaws.{less_or}
 use Rattle.trie_model.proofs.WalkLaws.{pair_spot, rank_next, spot_short, spot_long, spot_data, spot_child_pair, unset_data, unset_child}
 use Rattle.trie_model.proofs.WorkLaws.{rank_more}
 
@@ -125,8 +125,11 @@ rest_data {X} w t u h bit ok e lt took = record {
   child_bits = ap (λ m. bit_and m (children_from (next_spot h))) took.child_bits ∙ ap (bit_and t.child_bits) (ap (λ k. children_from (next_spot k)) e ∙ eqb-true _ _ (under 31 (λ b. eqb (children_from (next_spot (b + 1))) (children_from (b + 1))) same_children bit lt) ∙ ap children_from (sym e));
   at = λ n x. (
     (λ a. let was = (took.at n x).0 a.0 in let more = rank_more h (omega (arith, e)) (omega (arith, e, lt)) in let le = at_place n a.1 in ((was.0, omega (arith, more, le)), was.1)),
-    (λ a. ((took.at n x).1 (a.0.0, a.1), place_at n (rank_next h (spot_of w (depth_at t.place.len) n) (omega (arith, e)) (omega (arith, e, lt)) (pair_spot w t ok n x a.0.0).positive (pair_spot w t ok n x a.0.0).small a.0.1
-        (λ q. elim-false (sym a.1 ∙ same_net_is (data_net w t.place bit) n (spot_data w t ok bit lt n x a.0.0 (sym q ∙ e)).0))))),
+    (λ a. (
+      (took.at n x).1 (a.0.0, a.1),
+      place_at n (rank_next h (spot_of w (depth_at t.place.len) n) (omega (arith, e)) (omega (arith, e, lt)) (pair_spot w t ok n x a.0.0).positive (pair_spot w t ok n x a.0.0).small a.0.1
+          (λ q. elim-false (sym a.1 ∙ same_net_is (data_net w t.place bit) n (spot_data w t ok bit lt n x a.0.0 (sym q ∙ e)).0))),
+    )),
   );
   frugal = took.frugal;
 }
@@ -145,12 +148,15 @@ rest_took {X} w t u h c ok e lt set took = record {
   gone = bit_at_and u.child_bits (children_from (next_spot h)) c ∙ ap (λ z. min z (bit_at (children_from (next_spot h)) c)) took.gone ∙ omega arith;
   at = λ n x. (
     (λ a. let was = (took.at n x).0 a.0 in let more = rank_more h (omega (arith, e)) (omega (arith, e, lt)) in let le = at_place n a.1 in ((was.0, omega (arith, more, le)), was.1)),
-    (λ a. ((took.at n x).1 (a.0.0, a.1), place_at n (rank_next h (spot_of w (depth_at t.place.len) n) (omega (arith, e)) (omega (arith, e, lt)) (pair_spot w t ok n x a.0.0).positive (pair_spot w t ok n x a.0.0).small a.0.1
-        (λ q.
-        let d : ℕ = depth_at t.place.len in
-        let in_child = spot_child_pair w t ok c n x a.0.0 (sym q ∙ e) in
-        let way = covers_way w d t.place n ok.place_ok.len_fits (depth_le t.place.len) (ok.pairs n x a.0.0).1 in
-        elim-false (sym a.1 ∙ ap (λ b. covers w (child_net w t.place b) n) (sym in_child.1) ∙ toward_covers w t.place n (ok.deep c set) in_child.0 way))))),
+    (λ a. (
+      (took.at n x).1 (a.0.0, a.1),
+      place_at n (rank_next h (spot_of w (depth_at t.place.len) n) (omega (arith, e)) (omega (arith, e, lt)) (pair_spot w t ok n x a.0.0).positive (pair_spot w t ok n x a.0.0).small a.0.1
+          (λ q.
+          let d : ℕ = depth_at t.place.len in
+          let in_child = spot_child_pair w t ok c n x a.0.0 (sym q ∙ e) in
+          let way = covers_way w d t.place n ok.place_ok.len_fits (depth_le t.place.len) (ok.pairs n x a.0.0).1 in
+          elim-false (sym a.1 ∙ ap (λ b. covers w (child_net w t.place b) n) (sym in_child.1) ∙ toward_covers w t.place n (ok.deep c set) in_child.0 way))),
+    )),
   );
   frugal = took.frugal;
 }

@@ -1,6 +1,6 @@
 -- Laws of bitmaps, and of lists with what stands at a set bit.
 use Rattle.std.proofs.Common.{◌≡◌, ◌≢◌, ℕ, ◌+◌, ◌-◌, ◌*◌, ◌/◌, ◌%◌, ◌^◌, ◌<◌, ◌≤◌, ◌∙◌, sym, ap, subst, suc, refl, arith, Bool, true, false, eqb, leb, List, length, Some, inl, inr, lt_of_not-le}
-use Rattle.std.specs.Prelude.{slice_get, count_ones, ◌↔◌, ◌⊎◌, bit_or}
+use Rattle.std.specs.Prelude.{slice_get, count_ones, ◌⊎◌, bit_or}
 use Rattle.std.specs.List.{insert}
 use Rattle.std.proofs.Math.ListN.{set}
 use Rattle.std.proofs.lemmas.List.{get_or-set_same, get_or-set_other, length-set}

@@ -1,5 +1,5 @@
 -- A walk that starts at a prefix: what its levels have still to give.
-use Rattle.std.proofs.Common.{◌≡◌, ◌≢◌, ℕ, ◌+◌, ◌-◌, ◌*◌, ◌/◌, ◌^◌, ◌<◌, ◌≤◌, ◌∙◌, sym, ap, subst, suc, zero, refl, arith, Bool, true, false, cond, leb, eqb, bit_and, List, [], ◌∷◌, ◌++◌, length, inl, inr}
+use Rattle.std.proofs.Common.{◌≡◌, ◌≢◌, ℕ, ◌+◌, ◌-◌, ◌*◌, ◌/◌, ◌^◌, ◌<◌, ◌≤◌, ◌∙◌, sym, ap, subst, arith, Bool, true, false, cond, leb, bit_and, List, [], ◌∷◌, ◌++◌, length, inl, inr}
 use Rattle.std.specs.Prelude.{◌⊎◌, ◌↔◌, Result, Ok, Err, OnOk}
 use Rattle.std.specs.Int.{bit_at}
 use Rattle.std.proofs.lemmas.Bool.{le-leb, eq-eqb}
@@ -10,7 +10,7 @@ use Rattle.trie_model.specs.Nets.{Net, IsNet, covers, masked}
 use Rattle.trie_model.specs.Heap.{rank_at, bits_toward, spot_of, data_bit_of, next_spot, order_key}
 use Rattle.trie_model.specs.Views.{Told, IsView, TookChild, IsChild, depth_at, data_net, child_net}
 use Rattle.trie_model.specs.Walks.{Left, LevelOk, WalkOk, Roomy, From, rest}
-use Rattle.trie_model.proofs.Places.{both_hold, depth_le, covers_len, covers_bits, covers_way, covers_toward, toward_covers}
+use Rattle.trie_model.proofs.Places.{both_hold, depth_le, covers_len, covers_bits, covers_way, toward_covers}
 use Rattle.trie_model.proofs.HeapLaws.{net_back, in_spot, spot_order, InSpot, lower_bits, lower_len}
 use Rattle.trie_model.proofs.SlotLaws.{less_or, same_or}
 use Rattle.trie_model.proofs.WalkLaws.{either, left_top, left_under, left_cases, sorted_push, pair_spot, rank_less, rank_next, spot_short, spot_long, spot_data, spot_child_pair, short_small}

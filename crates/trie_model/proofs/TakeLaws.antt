@@ -1,6 +1,6 @@
 -- What taking an item or a child out of a node does.
-use Rattle.std.proofs.Common.{◌≡◌, ◌≢◌, ℕ, ◌+◌, ◌-◌, ◌*◌, ◌/◌, ◌%◌, ◌^◌, ◌<◌, ◌≤◌, ◌∙◌, sym, ap, subst, refl, arith, List, length, Option, Some, None, inl, inr}
-use Rattle.std.specs.Prelude.{slice_get, get_or, count_ones, ◌↔◌, ◌⊎◌}
+use Rattle.std.proofs.Common.{◌≡◌, ◌≢◌, ℕ, ◌+◌, ◌-◌, ◌^◌, ◌<◌, ◌≤◌, ◌∙◌, sym, ap, subst, refl, arith, List, length, Option, Some, None, inl, inr}
+use Rattle.std.specs.Prelude.{slice_get, get_or, count_ones, ◌⊎◌}
 use Rattle.std.specs.List.{remove}
 use Rattle.std.proofs.Math.ListN.{set}
 use Rattle.std.proofs.lemmas.List.{get_or-set_other, length-set}

@@ -1,5 +1,4 @@
 use Rattle.std.proofs.Common.{rules, ◌≡◌, ℕ, ◌+◌, ◌^◌, ◌<◌, ◌≤◌, ◌≢◌, ap, sym, subst, arith, refl, List, length}
-use Rattle.std.specs.Prelude.{◌↔◌}
 use Rattle.trie_model.specs.Nets.{Net}
 use Rattle.trie_model.specs.Views.{Told, depth_at, net_of_bit, data_net, level_of}
 use Rattle.trie_model.proofs.WalkLaws.{nothing_left}

@@ -52,7 +52,7 @@ pub returns-clause-room : goal.returns-clause-room
 returns-clause-room g c = room_one g.V.P.Number.Word.width (λ k. g.V.TrieView.told k.view) _ _ _ (let a = c.put.ensures.capacity in let r = c.requires.room in omega (arith, a, r)) (one_pushed _ _ _ c.put.ensures.items c.requires.empty)
 
 pub returns-clause-left : goal.returns-clause-left
-returns-clause-left g c n x = 
+returns-clause-left g c n x =
     let one = (walk_one (λ k. g.V.TrieView.valid k.view) (λ k. rest g.V.P.Number.Word.width (g.V.TrieView.told k.view) k.spot) (λ k. k.spot) g.V.P.Number.Word.width _ _ (one_pushed _ _ _ c.put.ensures.items c.requires.empty) (record { usable = c.requires.usable; view = rest_view g.V.P.Number.Word.width (g.V.TrieView.told c.args.view) 1 (omega arith) ((g.met.V.TrieView c.lifetimes (search rules)).laws _ c.requires.usable); first = omega arith; last = omega arith; ahead = rest_ahead g.V.P.Number.Word.width (g.V.TrieView.told c.args.view) 1 })).1 n x in
     let all = rest_start g.V.P.Number.Word.width (g.V.TrieView.told c.args.view) n x in
     let le = c.is_at_most.ensures.0 c.if-not-is_at_most.false in
