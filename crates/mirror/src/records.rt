@@ -19,7 +19,7 @@ fn is_whole_frame(alloc: Global, bytes: &[u8]) -> Result<bool, NoMemory>
     match NetlinkMessage::<Message>::deserialize(alloc, bytes) {
         Ok(message) => Ok(message.header.length as usize == bytes.len()),
         Err(DecodeError::NoMemory) => Err(NoMemory),
-        Err(DecodeError::TooSmall { .. } | DecodeError::BadLength) => Ok(false),
+        Err(_) => Ok(false),
     }
 }
 

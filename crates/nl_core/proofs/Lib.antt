@@ -1,4 +1,9 @@
+pub mod FlatLists
 pub mod Wire
+pub mod Lengths
+pub mod Walk
+pub mod Utf8
 pub mod Codes
 pub mod Fits
 pub mod Again
+pub mod AttributesAgain

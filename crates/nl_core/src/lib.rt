@@ -1,27 +1,50 @@
-//! Netlink frames: headers, payloads and the two directions between bytes and messages.
+//! Netlink frames and attributes: headers, payloads, and the two directions between bytes and
+//! messages.
 #![tactic(auto)]
 
+mod default_nla;
+mod emitable;
 mod error;
 mod header;
 mod laws;
 mod lists;
 mod message;
+mod nla;
+mod nlas;
 mod numbers;
+mod parseable;
 mod raw;
+mod text;
 
+pub use default_nla::DefaultNla;
+pub use emitable::{Emitable, put};
 pub use error::{DecodeError, NoMemory};
 pub use header::{
     HEADER_LEN, NLM_F_ACK, NLM_F_DUMP, NLM_F_DUMP_INTR, NLM_F_ECHO, NLM_F_MATCH, NLM_F_MULTIPART,
     NLM_F_REQUEST, NLM_F_ROOT, NLMSG_DONE, NLMSG_ERROR, NLMSG_NOOP, NLMSG_OVERRUN, NetlinkHeader,
 };
-pub use laws::{frames_read_back, prefixes_refused};
-pub use lists::{Items, Octets};
+pub use laws::{
+    attributes_read_back, attributes_read_left_to_right, fitting_attributes_are_short,
+    frames_read_back, prefixes_refused,
+};
+pub use lists::{CloneWith, Items, Octets};
 pub use message::{
     DoneMessage, ErrorMessage, NetlinkDeserializable, NetlinkMessage, NetlinkPayload,
     NetlinkSerializable,
 };
-pub use numbers::{emit_bytes, emit_i32, emit_u16, emit_u32, i32_at, put_bytes, u16_at, u32_at};
+pub use nla::{Nla, NlaBuffer};
+pub use nlas::{
+    NlasIterator, attributes_len, emit_attributes, parse_attributes, parse_attributes_with,
+};
+pub use numbers::{
+    emit_bytes, emit_i32, emit_u16, emit_u16_be, emit_u32, emit_u64, emit_u64s, i32_at, parse_i32,
+    parse_u8, parse_u16, parse_u16_be, parse_u32, parse_u64, put_bytes, u16_at, u32_at, u64_at,
+};
+pub use parseable::{Parseable, ParseableParametrized};
 pub use raw::RawMessage;
+pub use text::{Text, parse_string};
 
+#[cfg(test)]
+mod attribute_tests;
 #[cfg(test)]
 mod tests;
