@@ -4,6 +4,7 @@ pub mod Lengths
 pub mod Walk
 pub mod Utf8
 pub mod Codes
+pub mod Signed
 pub mod Fits
 pub mod Again
 pub mod AttributesAgain

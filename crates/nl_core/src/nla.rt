@@ -4,7 +4,7 @@
 //! bytes each, then its value, padded to a multiple of four.
 #![tactic(auto, using(crate::proofs::Wire::writes))]
 
-ghost use Rattle.std.specs.Prelude.{◌≡◌, ◌≤◌, ◌<◌, ◌+◌, true, List, ℕ, length};
+ghost use Rattle.std.specs.Prelude.{◌≡◌, ◌≤◌, ◌<◌, ◌+◌, ◌^◌, true, List, ℕ, length};
 ghost use Rattle.nl_core.specs.Writing.{Writes, WritesAt, capped};
 ghost use Rattle.nl_core.specs.Attribute.{attribute_text, attribute_fits, padded, is_checked, checked, raw_kind_of, kind_of, value_of, after};
 
@@ -13,10 +13,11 @@ use crate::error::DecodeError;
 use crate::numbers::{emit_u16, put_u16, put_zeros, u16_at};
 use std::marker::Model;
 
-const HEADER_LEN: usize = 4;
+/// The length in bytes of an attribute's header.
+pub const HEADER_LEN: usize = 4;
 
-// The longest value: with its header it is as long as the length field can tell.
-const MOST_VALUE: usize = 65_531;
+/// The longest value: with its header it is as long as the length field can tell.
+pub const MOST_VALUE: usize = 65_531;
 
 const KIND_BITS: u16 = 0x4000;
 
@@ -50,9 +51,9 @@ fn put_value<N: Nla>(nla: &N, buf: &mut [u8], at: usize)
     nla.emit_value(&mut buf[at..]);
 }
 
-// Rounds up to a multiple of four.
-fn align(len: usize) -> usize
-    requires { len ≤ 65535 }
+/// Rounds up to a multiple of four.
+pub fn align(len: usize) -> usize
+    requires { len + 3 < 2 ^ 64 }
     ensures { result ≡ padded len }
 {
     (len + 3) / 4 * 4

@@ -10,7 +10,7 @@ ghost use Rattle.nl_core.specs.Reading.{Gives};
 use crate::emitable::{Emitable, put};
 use crate::error::DecodeError;
 use crate::lists::Items;
-use crate::nla::{Nla, NlaBuffer};
+use crate::nla::{HEADER_LEN, MOST_VALUE, Nla, NlaBuffer, align};
 use crate::parseable::{Parseable, ParseableParametrized};
 use std::alloc::Global;
 use std::marker::Model;
@@ -26,10 +26,11 @@ impl<X: Nla> Emitable for &[X] {
     fn fits(&self) -> bool {
         let mut len: u64 = 16;
         for x in *self {
-            if x.value_len() > 65_531 {
+            let value_len = x.value_len();
+            if value_len > MOST_VALUE {
                 return false;
             }
-            len = len.saturating_add(4 + (x.value_len() as u64 + 3) / 4 * 4);
+            len = len.saturating_add((HEADER_LEN + align(value_len)) as u64);
         }
         len <= MOST
     }
@@ -98,7 +99,7 @@ fn attribute_len<X: Nla>(x: &X) -> usize
     if len > usize::MAX - 7 {
         return usize::MAX;
     }
-    4 + (len + 3) / 4 * 4
+    HEADER_LEN + align(len)
 }
 
 /// The count of bytes of attributes, or the largest number where it is larger: the `value_len` of an

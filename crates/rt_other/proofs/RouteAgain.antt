@@ -1,0 +1,38 @@
+-- Messages on routes are read again.
+use Rattle.std.proofs.Common.{◌≡◌, ◌++◌, ℕ, false, List, length, nat_lt, drop, Result, Ok, refl, ap, ◌∙◌, arith, length-append}
+use Rattle.std.specs.Prelude.{slice_index}
+use Rattle.std.proofs.lemmas.Bool.{le-ltb}
+use Rattle.std.proofs.lemmas.List.{drop_at}
+use Rattle.std.proofs.lemmas.Nat.{from_le_bytes-to_le_bytes_4}
+use Rattle.nl_core.specs.declared.error.DecodeError.{DecodeError}
+use Rattle.nl_core.specs.Numbers.{le32, u32_at}
+use Rattle.nl_core.specs.Reading.{◌>>=◌}
+use Rattle.rt_other.specs.Family.{family_byte}
+use Rattle.rt_other.specs.declared.route.RouteHeader.{RouteHeader}
+use Rattle.rt_other.specs.Route.{header_text, header_at, HeaderReadsBack, MessagesReadBack}
+use Rattle.nl_core.specs.Attribute.{attributes, attributes_text}
+use Rattle.rt_other.specs.RouteAttribute.{kind, value, attribute_at}
+use Rattle.rt_other.proofs.Headers.{length-route}
+use Rattle.rt_other.proofs.FamilyAgain.{family-again}
+use Rattle.rt_other.proofs.RouteAttributeAgain.{route-again}
+
+bytes : (h : RouteHeader) (more : List ℕ) → (slice_index (header_text h ++ more) 0 ≡ family_byte h.address_family) × (slice_index (header_text h ++ more) 1 ≡ h.destination_prefix_length) × (slice_index (header_text h ++ more) 2 ≡ h.source_prefix_length) × (slice_index (header_text h ++ more) 3 ≡ h.tos) × (slice_index (header_text h ++ more) 4 ≡ h.table) × (slice_index (header_text h ++ more) 5 ≡ h.protocol.0) × (slice_index (header_text h ++ more) 6 ≡ h.scope) × (slice_index (header_text h ++ more) 7 ≡ h.kind.0)
+unfolding header_text le32
+bytes h more = (refl, refl, refl, refl, refl, refl, refl, refl)
+
+numbers : (h : RouteHeader) (more : List ℕ) → HeaderReadsBack h → (u32_at (header_text h ++ more) 8 ≡ h.flags)
+unfolding header_text le32 u32_at
+numbers h more back = from_le_bytes-to_le_bytes_4 h.flags back.of_flags
+
+header-again : (h : RouteHeader) (more : List ℕ) → HeaderReadsBack h → header_at (header_text h ++ more) ≡ Ok h
+header-again h more back =
+    let long : nat_lt (length (header_text h ++ more)) 12 ≡ false = le-ltb _ _ (omega (arith, length-append (header_text h) more, length-route h)) in
+    let b = bytes h more in
+    rw (long, b.0, b.1, b.2, b.3, b.4, b.5, b.6, b.7, family-again h.address_family back.of_family, numbers h more back) refl
+
+pub messages-again : MessagesReadBack
+messages-again m fit back each =
+    let rest = attributes_text kind value m.attributes in
+    let bytes = header_text m.header ++ rest in
+    ap (λ (r : Result RouteHeader DecodeError). r >>= λ h. attributes (attribute_at h.address_family) (drop 12 bytes) >>= λ a. Ok (record { header = h; attributes = a })) (header-again m.header rest back)
+    ∙ rw (drop_at (header_text m.header) rest 12 (length-route m.header), route-again m.header.address_family m.attributes _ fit each) refl

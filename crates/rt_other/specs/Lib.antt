@@ -1,0 +1,10 @@
+pub mod Family
+pub mod Stats
+pub mod Opaque
+pub mod RouteAttribute
+pub mod Route
+pub mod Link
+pub mod Address
+pub mod Rule
+pub mod Tc
+pub mod TcAction
