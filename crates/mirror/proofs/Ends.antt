@@ -9,7 +9,7 @@ use Rattle.session_model.specs.declared.outcome.RunFault.TheVariants as run
 use Rattle.session_model.specs.declared.transcript.Record.{Record}
 use Rattle.session_model.specs.Causes.{Stops, HasCause, IsUnfinished}
 use Rattle.session_model.specs.Reported.{report_of}
-use Rattle.session_model.specs.Transcript.{lines_of}
+use Rattle.session_model.specs.Transcript.{has_newline, lines_of}
 use Rattle.session_model.proofs.Places.{append-nil}
 use Rattle.mirror.specs.declared.progress.Progress.{Progress}
 use Rattle.mirror.specs.declared.runner.Runner.{Runner}
@@ -112,6 +112,17 @@ steady_same p q h runner line taken = record {
   where
     within : (count : Runner → ℕ) → 2 * count p.runner + vec_len p.line ≤ p.taken → 2 * count q.runner + vec_len q.line ≤ q.taken
     within count low = subst (λ r. 2 * count r + vec_len q.line ≤ q.taken) (sym runner) (subst (λ v. 2 * count p.runner + vec_len v ≤ q.taken) (sym line) (subst (λ n. 2 * count p.runner + vec_len p.line ≤ n) (sym taken) low))
+
+-- Memory ran out before anything was read.
+pub ended_before : (s : Settings) (l w : Option (List ℕ)) → Ended s l l w w [] run.NoMemory
+ended_before s l w = record {
+  stands = record { records = []; part = []; lost = []; taken = tt; read = front_none l; gained = gained_none w [] };
+  ends = tt;
+}
+
+-- At the beginning nothing was read.
+pub reached_none : (s : Settings) (runner : Runner) (line : List ℕ) → Tracks s [] runner → line ≡ [] → Reached s [] runner line []
+reached_none s runner line tracks is = record { records = []; spelled = sym is; part = ap has_newline is; tracks = tracks; told = refl }
 
 -- ---- standing still
 

@@ -5,6 +5,7 @@ ghost use Rattle.mirror.specs.Outcome.{WasRun, WasEnded};
 
 use crate::io::{Sink, Source};
 use crate::progress::Progress;
+use crate::runner::Runner;
 use session_model::{Report, RunFault, Settings};
 use std::alloc::Global;
 
@@ -26,7 +27,8 @@ pub fn run<S: Source, K: Sink>(
     ensures write_cause { result ≡ Err RunFault.WriteFault → HasRisen (K.faults out.old) (K.faults out.new) }
     ensures later { K.faults out.old ≤ K.faults out.new }
 {
-    let mut progress = Progress::new(alloc, settings);
+    let runner = Runner::new(alloc, settings)?;
+    let mut progress = Progress::new(alloc, runner);
     let ended = progress.read_all(input, out);
     progress.flush(out)?;
     ended?;

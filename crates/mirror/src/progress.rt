@@ -9,7 +9,7 @@ ghost use Rattle.mirror.specs.Outcome.{Running, Standing, Ended};
 use crate::io::{Read, Sink, Source, write_all};
 use crate::records::read_line;
 use crate::runner::Runner;
-use session_model::{RunFault, Settings};
+use session_model::RunFault;
 use std::alloc::Global;
 
 // How much is read at once, and how much text waits before it is written, in bytes.
@@ -29,16 +29,18 @@ pub struct Progress {
 
 impl Progress {
     /// Nothing read so far.
-    pub fn new(alloc: Global, settings: &Settings) -> Self
+    pub fn new(alloc: Global, runner: Runner) -> Self
+        requires counted { Counted runner }
+        requires none { (runner.lines ≡ 0) × (runner.messages ≡ 0) × (runner.dropped ≡ 0) }
         ensures steady { Steady result }
-        ensures settings { result.runner.settings ≡ settings.now }
-        ensures reached { Reached settings.now [] result.runner result.line.items [] }
+        ensures runner { result.runner ≡ runner }
+        ensures line { result.line.items ≡ [] }
         ensures taken { result.taken ≡ 0 }
         ensures text { result.text.items ≡ [] }
     {
         Progress {
             alloc,
-            runner: Runner::new(alloc, settings),
+            runner,
             line: Vec::new(alloc),
             taken: 0,
             text: Vec::new(alloc),

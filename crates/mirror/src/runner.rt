@@ -60,12 +60,12 @@ impl Runner {
     ghost use Rattle.mirror.specs.Steps.{Advances, Amid, Brought, Counted, Fails, Grows, Keeps, Sends, Tracks, WhyNot, text_behind, weight};
 
     /// No records so far.
-    pub fn new(alloc: Global, settings: &Settings) -> Runner
-        ensures tracks { Tracks settings.now [] result }
-        ensures counted { Counted result }
-        ensures none { (result.lines ≡ 0) × (result.messages ≡ 0) × (result.dropped ≡ 0) }
+    pub fn new(alloc: Global, settings: &Settings) -> Result<Runner, NoMemory>
+        ensures tracks { IfOk result (λ r. Tracks settings.now [] r) }
+        ensures counted { IfOk result (λ r. Counted r) }
+        ensures none { IfOk result (λ r. (r.lines ≡ 0) × (r.messages ≡ 0) × (r.dropped ≡ 0)) }
     {
-        Runner {
+        Ok(Runner {
             alloc,
             settings: *settings,
             session: Protocol::with_start(alloc, settings.start),
@@ -75,7 +75,7 @@ impl Runner {
             messages: 0,
             dropped: 0,
             closed: false,
-        }
+        })
     }
 
     // Takes in a message.

@@ -298,7 +298,7 @@ fn records_are_stepped(rt: HostRuntime) -> Result<(), Fail> {
         }
         _ => assert!(rt; false),
     }
-    let mut runner = Runner::new(alloc, &Settings::usual());
+    let mut runner = Runner::new(alloc, &Settings::usual())?;
     let mut out = MemorySink::new(alloc, 100, Vec::new(alloc));
     assert_eq!(rt; runner.step(0, Record::Overrun, &mut out), Ok(()));
     assert_eq!(rt; out.bytes(), b"unsol 1 0 0 4 0 0 0 -\n".as_slice());
