@@ -3,8 +3,10 @@
 // NLMSG_DONE answers.
 use super::{sink, source, strings};
 use crate::{
-    Mark, MemorySink, Record, Report, RunFault, Runner, Settings, SocketAddr, cli, read_line, run,
+    BatchFrame, Mark, MemorySink, Record, Report, RunFault, Runner, Settings, SocketAddr, cli,
+    read_line, run,
 };
+use nl_core::{Items, Octets};
 use std::test::Fail;
 
 // Which frames leave, and which streams close at once.
@@ -284,20 +286,22 @@ fn records_are_stepped(rt: HostRuntime) -> Result<(), Fail> {
     let alloc = rt.alloc();
     assert!(rt; read_line(alloc, b"overrun")? == Some(Record::Overrun));
     assert!(rt; read_line(alloc, b"overruns")? == None);
-    match read_line(
-        alloc,
-        b"batch 7 1 n:1c0000001a0001030000000000000000000000000000000000000000",
-    )? {
-        Some(Record::Batch { to, frames }) => {
-            assert_eq!(rt; to, SocketAddr::new(7, 1));
-            assert_eq!(rt; frames.len(), 1);
-            for frame in frames.as_slice() {
-                assert_eq!(rt; frame.mark, Mark::NotExpected);
-                assert_eq!(rt; frame.bytes.len(), 28);
-            }
-        }
-        _ => assert!(rt; false),
-    }
+    let mut bytes = vec![in alloc; 0u8; 28]?;
+    bytes[0] = 28;
+    bytes[4] = 26;
+    bytes[6] = 1;
+    bytes[7] = 3;
+    let mut frames = Items::new(alloc);
+    frames.push(BatchFrame {
+        mark: Mark::NotExpected,
+        bytes: Octets::from_vec(bytes),
+    })?;
+    let batch = Record::Batch {
+        to: SocketAddr::new(7, 1),
+        frames,
+    };
+    let line = b"batch 7 1 n:1c0000001a0001030000000000000000000000000000000000000000";
+    assert!(rt; read_line(alloc, line)? == Some(batch));
     let mut runner = Runner::new(alloc, &Settings::usual())?;
     let mut out = MemorySink::new(alloc, 100, Vec::new(alloc));
     assert_eq!(rt; runner.step(0, Record::Overrun, &mut out), Ok(()));
