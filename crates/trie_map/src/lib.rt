@@ -9,6 +9,7 @@ mod prefix;
 mod prefixes;
 mod refs;
 mod set;
+mod try_clone;
 mod view;
 mod walk;
 
@@ -22,7 +23,8 @@ pub use node::{Start, Steps};
 pub use prefix::{Place, Prefix, Word, mask_from_prefix_len};
 pub use refs::TrieRef;
 pub use set::PrefixSet;
-pub use view::{AsView, CloneView, TrieView, TryClone};
+pub use try_clone::TryClone;
+pub use view::{AsView, CloneView, TrieView};
 pub use walk::ViewIter;
 
 #[cfg(test)]

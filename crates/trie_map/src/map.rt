@@ -11,6 +11,7 @@ ghost use Rattle.trie_model.specs.Walks.{From, IsListOf, Within};
 use crate::node::{Node, Steps, empty, find, longest, put, take};
 use crate::prefix::Place;
 use crate::refs::{TrieRef, root_view, view_inside};
+use crate::try_clone::TryClone;
 use crate::view::{AsView, TrieView};
 use crate::walk::ViewIter;
 use nl_core::NoMemory;
@@ -198,6 +199,25 @@ impl<P: Place, T: Drop> PrefixMap<P, T> {
         }
     }
 
+    /// A map with the same entries, each item copied by `copy`, whose copies equal their originals.
+    pub fn clone_with<F: Fn(&T) -> Result<T, NoMemory>>(&self, copy: F) -> Result<Self, NoMemory>
+        requires callable { F.IsAlwaysCallable copy }
+        requires equal { (r : _) (x : T) → F.post copy r (Ok x) → x ≡ r.now }
+        ensures { IfOk result (λ map. map ≡ self.now) }
+    {
+        let mut map = PrefixMap::new(self.alloc);
+        let mut walk = self.iter()?;
+        'pairs: while let Some(pair) = walk.next() {
+            let (prefix, item) = pair?;
+            let value = copy(item)?;
+            match map.insert(prefix, value) {
+                Ok(_) => {}
+                Err((refusal, _, _)) => return Err(refusal),
+            }
+        }
+        Ok(map)
+    }
+
     /// Takes a prefix out, and gives its value. Nodes that are left with nothing are dropped.
     pub fn remove(&mut self, prefix: &P) -> Option<T>
         requires { (P.net prefix.now).len ≤ P.Number.width }
@@ -220,6 +240,12 @@ impl<'a, P: Place, T> AsView<'a> for &'a PrefixMap<P, T> {
 
     fn view(self) -> TrieRef<'a, P, T> {
         self.view_counted(&mut Steps::start())
+    }
+}
+
+impl<P: Place, T: TryClone + Drop> TryClone for PrefixMap<P, T> {
+    fn clone_with(&self) -> Result<Self, NoMemory> {
+        PrefixMap::clone_with(self, |item| item.clone_with())
     }
 }
 

@@ -11,6 +11,7 @@ use crate::map::PrefixMap;
 use crate::node::Steps;
 use crate::prefix::Place;
 use crate::refs::TrieRef;
+use crate::try_clone::TryClone;
 use crate::view::{AsView, TrieView};
 use crate::walk::ViewIter;
 use nl_core::NoMemory;
@@ -142,6 +143,13 @@ impl<P: Place> PrefixSet<P> {
         ensures gone { self.new ≡ removed self.old (P.net prefix.now) }
     {
         self.map.remove(prefix).is_some()
+    }
+}
+
+impl<P: Place> TryClone for PrefixSet<P> {
+    fn clone_with(&self) -> Result<Self, NoMemory> {
+        let map = self.map.clone_with(|_| Ok(()))?;
+        Ok(PrefixSet { map })
     }
 }
 

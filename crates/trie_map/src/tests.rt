@@ -1,7 +1,7 @@
 //! Each public call once, and the places where nodes meet.
 
 use crate::{
-    Prefix, PrefixMap, PrefixSet, Steps, TrieView, child_bit, child_cover_mask,
+    Prefix, PrefixMap, PrefixSet, Steps, TrieView, TryClone, child_bit, child_cover_mask,
     child_cover_mask_for_bit, data_bit, data_cover_mask, data_cover_mask_for_bit, data_lpm_mask,
     extend_repr, mask_from_prefix_len, reconstruct_prefix,
 };
@@ -228,5 +228,25 @@ fn views_and_walks_from_a_prefix(rt: HostRuntime) -> Result<(), Fail> {
         Some(Ok(1))
     );
     assert!(rt; walk.next().is_none());
+    Ok(())
+}
+
+#[test]
+fn clones(rt: HostRuntime) -> Result<(), Fail> {
+    let mut map: PrefixMap<(u32, u8), u32> = PrefixMap::new(rt.alloc());
+    assert_eq!(rt; map.insert((0x0A00_0000, 8), 2), Ok(None));
+    assert_eq!(rt; map.insert((0x0A01_0203, 32), 4), Ok(None));
+    let copy = map.clone_with(|item| Ok(*item))?;
+    assert_eq!(rt; map.insert((0x0A01_0203, 32), 5), Ok(Some(4)));
+    assert_eq!(rt; copy.len(), 2);
+    assert_eq!(rt; copy.get(&(0x0A00_0000, 8)).copied(), Some(2));
+    assert_eq!(rt; copy.get(&(0x0A01_0203, 32)).copied(), Some(4));
+    let again = TryClone::clone_with(&map)?;
+    assert_eq!(rt; again.get(&(0x0A01_0203, 32)).copied(), Some(5));
+    let mut set: PrefixSet<(u32, u8)> = PrefixSet::new(rt.alloc());
+    assert_eq!(rt; set.insert((0x0A00_0000, 24)), Ok(true));
+    let copy = set.clone_with()?;
+    assert!(rt; copy.contains(&(0x0A00_0000, 24)));
+    assert_eq!(rt; (true.clone_with()?, 7u8.clone_with()?), (true, 7));
     Ok(())
 }

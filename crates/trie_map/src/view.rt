@@ -99,13 +99,6 @@ pub trait CloneView: Sized {
         ensures { IfOk result (λ copy. copy ≡ self.now) };
 }
 
-/// A value that can be copied where there is memory.
-pub trait TryClone: Sized {
-    /// An equal value, or want of memory.
-    fn clone_with(&self) -> Result<Self, NoMemory>
-        ensures { IfOk result (λ copy. copy ≡ self.now) };
-}
-
 /// What can be seen as a view: a reference to a map or a set, and each view.
 pub trait AsView<'a>: Sized {
     type View: TrieView<'a>;

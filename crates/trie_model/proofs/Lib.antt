@@ -1,3 +1,4 @@
+pub mod CloneLaws
 pub mod CountLaws
 pub mod DownLaws
 pub mod FullLaws

@@ -1,0 +1,60 @@
+//! Copies for which memory may be wanting.
+
+ghost use Rattle.std.specs.Prelude.{◌≡◌, IfOk};
+
+use nl_core::NoMemory;
+
+/// A value that can be copied where there is memory.
+pub trait TryClone: Sized {
+    /// An equal value, or want of memory.
+    fn clone_with(&self) -> Result<Self, NoMemory>
+        ensures { IfOk result (λ copy. copy ≡ self.now) };
+}
+
+impl TryClone for () {
+    fn clone_with(&self) -> Result<Self, NoMemory> {
+        Ok(())
+    }
+}
+
+impl TryClone for bool {
+    fn clone_with(&self) -> Result<Self, NoMemory> {
+        Ok(*self)
+    }
+}
+
+impl TryClone for u8 {
+    fn clone_with(&self) -> Result<Self, NoMemory> {
+        Ok(*self)
+    }
+}
+
+impl TryClone for u16 {
+    fn clone_with(&self) -> Result<Self, NoMemory> {
+        Ok(*self)
+    }
+}
+
+impl TryClone for u32 {
+    fn clone_with(&self) -> Result<Self, NoMemory> {
+        Ok(*self)
+    }
+}
+
+impl TryClone for u64 {
+    fn clone_with(&self) -> Result<Self, NoMemory> {
+        Ok(*self)
+    }
+}
+
+impl TryClone for u128 {
+    fn clone_with(&self) -> Result<Self, NoMemory> {
+        Ok(*self)
+    }
+}
+
+impl TryClone for usize {
+    fn clone_with(&self) -> Result<Self, NoMemory> {
+        Ok(*self)
+    }
+}
