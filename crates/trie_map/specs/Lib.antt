@@ -1,3 +1,4 @@
 pub mod Forms
+pub mod Lending
 pub mod Moves
 pub mod Walking

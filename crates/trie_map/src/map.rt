@@ -1,14 +1,14 @@
 //! A finite map of prefixes.
 
-ghost use Rattle.std.specs.Prelude.{◌≡◌, ◌↔◌, ◌+◌, ◌-◌, ◌^◌, ◌<◌, ◌≤◌, [], ⊤, length, min, IsTrue, IsSome, IfOk, IfErr, IfNone, IfSome, OnOk, OnErr, OnSome};
-ghost use Rattle.std.specs.Option.{option_copied};
+ghost use Rattle.std.specs.Prelude.{◌≡◌, ◌↔◌, ◌+◌, ◌-◌, ◌^◌, ◌<◌, ◌≤◌, [], ⊤, length, min, IsTrue, IsSome, Some, IfOk, IfErr, IfNone, IfSome, OnOk, OnErr, OnSome};
+ghost use Rattle.std.specs.Option.{option_copied, option_copied_mut};
 ghost use Rattle.trie_map.specs.Walking.{CanWalk, IsFrugalWalk, ToCome};
 ghost use Rattle.trie_model.specs.Inside.{LiesIn, SomeIn};
 ghost use Rattle.trie_model.specs.Maps.{LongestMatch, inserted, missing, present, removed, value_at};
 ghost use Rattle.trie_model.specs.Nets.{Net};
 ghost use Rattle.trie_model.specs.Walks.{From, IsListOf, Within};
 
-use crate::node::{Node, Steps, empty, find, longest, put, take};
+use crate::node::{Deepest, Descent, Node, Steps, empty, find, longest, put, take};
 use crate::prefix::Place;
 use crate::refs::{TrieRef, root_view, view_inside};
 use crate::try_clone::TryClone;
@@ -166,6 +166,36 @@ impl<P: Place, T> PrefixMap<P, T> {
         ensures rest { IfOk result (λ walk. (n : Net) (x : T) → ToCome ⟦<TrieRef<'a, P, T> as TrieView<'a>>⟧.told P.Number.width walk n x ↔ (Within self.now n x × From P.Number.width inclusive (P.net prefix.now) n)) }
     {
         ViewIter::starting(self.alloc, self.view(), prefix, inclusive)
+    }
+}
+
+impl<P: Place, T> PrefixMap<P, T> {
+    ghost use Rattle.std.specs.Borrow.{Lends, LendsIf, sem};
+    ghost use Rattle.trie_map.specs.contracts.map.PrefixMap.{the_row};
+
+    /// The value of a prefix that has one, to be written.
+    fn entry_mut(&mut self, prefix: &P) -> &mut T
+        requires len { (P.net prefix.now).len ≤ P.Number.width }
+        requires there { IsSome (value_at self.old (P.net prefix.now)) }
+        ensures* lends { sem 𝓛 (Lends (the_row P.row T.row P.Number.row P.Place P.Number.Word) T.row self.entry result (λ x. inserted P.Number.width self.entry.now (P.net prefix.now) x)) }
+        ensures value { value_at self.old (P.net prefix.now) ≡ Some result.now }
+    {
+        let key = prefix.number();
+        Deepest::lend_item(&mut self.root, 0, key, prefix.length() as u32)
+    }
+
+    /// The value of a prefix, to be written: what is left there is the prefix's value then, and all
+    /// other entries stay.
+    pub fn get_mut(&mut self, prefix: &P) -> Option<&mut T>
+        requires { (P.net prefix.now).len ≤ P.Number.width }
+        ensures* lends { sem 𝓛 (LendsIf (the_row P.row T.row P.Number.row P.Place P.Number.Word) T.row self.entry result (λ x. inserted P.Number.width self.entry.now (P.net prefix.now) x) self.entry.now) }
+        ensures value { option_copied_mut result ≡ value_at self.old (P.net prefix.now) }
+    {
+        if self.contains_key(prefix) {
+            Some(self.entry_mut(prefix))
+        } else {
+            None
+        }
     }
 }
 

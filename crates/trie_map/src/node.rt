@@ -1,6 +1,7 @@
 //! The nodes of a trie. Outside of this module they are read only by `visit`, which counts.
 
 mod grow;
+mod lend;
 mod look;
 mod shrink;
 
@@ -14,6 +15,7 @@ ghost use Rattle.trie_model.specs.Tries.{slot_of, Good, Full};
 use crate::masks::child_bit;
 use crate::prefix::Word;
 pub use grow::put;
+pub use lend::{Deepest, Descent};
 pub use look::{find, longest, reach};
 pub use shrink::take;
 use std::alloc::Global;

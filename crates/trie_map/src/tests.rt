@@ -250,3 +250,17 @@ fn clones(rt: HostRuntime) -> Result<(), Fail> {
     assert_eq!(rt; (true.clone_with()?, 7u8.clone_with()?), (true, 7));
     Ok(())
 }
+
+#[test]
+fn items_are_written_in_place(rt: HostRuntime) -> Result<(), Fail> {
+    let mut map: PrefixMap<(u128, u8), u32> = PrefixMap::new(rt.alloc());
+    assert_eq!(rt; map.insert((0, 0), 1), Ok(None));
+    assert_eq!(rt; map.insert((5, 128), 2), Ok(None));
+    assert!(rt; map.get_mut(&(4, 127)).is_none());
+    if let Some(item) = map.get_mut(&(5, 128)) {
+        *item = 7;
+    }
+    assert_eq!(rt; map.get(&(5, 128)).copied(), Some(7));
+    assert_eq!(rt; map.get(&(0, 0)).copied(), Some(1));
+    Ok(())
+}
