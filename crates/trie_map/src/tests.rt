@@ -264,3 +264,46 @@ fn items_are_written_in_place(rt: HostRuntime) -> Result<(), Fail> {
     assert_eq!(rt; map.get(&(0, 0)).copied(), Some(1));
     Ok(())
 }
+
+/// The value of the longest prefix in a plain list of masks, bits and values that contains a number.
+fn longest_of(list: &[(u32, u32, u32)], number: u32) -> Option<u32> {
+    let mut longest = (0, None);
+    for (mask, bits, value) in list {
+        if number & *mask == *bits && longest.0 <= *mask {
+            longest = (*mask, Some(*value));
+        }
+    }
+    longest.1
+}
+
+#[test]
+fn like_a_plain_list(rt: HostRuntime) -> Result<(), Fail> {
+    let mut map: PrefixMap<(u32, u8), u32> = PrefixMap::new(rt.alloc());
+    let mut list: Vec<(u32, u32, u32)> = Vec::new(rt.alloc());
+    let mut number = 1u32;
+    for round in 0..4u32 {
+        for len in 0..33u8 {
+            number = number.wrapping_mul(1_664_525).wrapping_add(1_013_904_223);
+            let few = number & 0x8C63_18C7;
+            let mask = mask_from_prefix_len::<u32>(len);
+            let bits = few & mask;
+            let was = list
+                .iter()
+                .find(|entry| entry.0 == mask && entry.1 == bits)
+                .map(|entry| entry.2);
+            list.retain(|entry| entry.0 != mask || entry.1 != bits);
+            if round == 2 {
+                assert_eq!(rt; map.remove(&(few, len)), was);
+            } else {
+                assert_eq!(rt; map.insert((few, len), round), Ok(was));
+                list.push((mask, bits, round))?;
+            }
+            assert_eq!(rt; map.len(), list.len());
+            assert_eq!(rt;
+                map.get_lpm(&(few, 32)).map(|found| *found.1),
+                longest_of(&list, few)
+            );
+        }
+    }
+    Ok(())
+}
