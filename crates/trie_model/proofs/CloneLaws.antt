@@ -1,12 +1,11 @@
 -- A map is built again by putting the pairs of its list one behind the other.
-use Rattle.std.proofs.Common.{◌≡◌, ℕ, ◌+◌, ◌-◌, ◌<◌, ◌≤◌, ◌∙◌, sym, ap, subst, refl, arith, true, false, cond, List, [], ◌∷◌, ◌++◌, length, inl, inr}
-use Rattle.std.specs.Prelude.{◌⊎◌}
+use Rattle.std.proofs.Common.{◌≡◌, ℕ, ◌-◌, ◌<◌, ◌∙◌, sym, ap, subst, refl, arith, cond, List, [], ◌∷◌, ◌++◌, length, inl, inr}
 use Rattle.std.proofs.Common.{append_assoc, length-append}
 use Rattle.trie_model.specs.Nets.{Net, IsNet}
 use Rattle.trie_model.specs.Heap.{order_key, ltb}
 use Rattle.trie_model.specs.Tries.{Form}
 use Rattle.trie_model.specs.Walks.{Within, Ascends, IsListOf, ListGoesOn}
-use Rattle.trie_model.specs.Maps.{map_of, put_pair, removed, inserted}
+use Rattle.trie_model.specs.Maps.{map_of, put_pair, inserted}
 use Rattle.trie_model.proofs.Places.{not_true}
 use Rattle.trie_model.proofs.HeapLaws.{ltb-lt}
 use Rattle.trie_model.proofs.CountLaws.{nothing_removed, list_of_map}
@@ -59,13 +58,6 @@ more_copied w at' all done new left rest n x y up is on same put =
     let a = ap length whole ∙ length-append done ((n, x) ∷ rest) in
     let b = ap length last ∙ length-append done ((n, x) ∷ []) in
     omega (arith, a, b)
-
-pub all_copied : {X : Type 0} (w : ℕ) (all done left : List (Net × X)) → all ≡ done ++ left → left ≡ [] → done ≡ all
-all_copied w all done left is none = sym (is ∙ ap (λ zs. done ++ zs) none ∙ nothing_more done)
-  where
-    nothing_more : {Y : Type 0} (zs : List Y) → zs ++ [] ≡ zs
-    nothing_more [] = refl
-    nothing_more (z ∷ zs) = ap (λ us. z ∷ us) (nothing_more zs)
 
 -- each prefix of a map's list is one of its width
 pub list_net : {N X : Type 0} (f : Form N X) (w : ℕ) (root : N) (all done left rest : List (Net × X)) (at' : Net → X → Type 0) (n : Net) (x : X) → list_of f w root ≡ all → all ≡ done ++ left → ListGoesOn w at' n x left rest → IsNet w n

@@ -3,7 +3,7 @@ use Rattle.std.proofs.Common.{◌≡◌, ℕ, ◌+◌, ◌-◌, ◌*◌, ◌/◌
 use Rattle.std.specs.Int.{bit_at}
 use Rattle.std.proofs.lemmas.Bool.{eqb-true, eq-eqb, leb-true, le-leb}
 use Rattle.std.proofs.lemmas.Nat.{pow_pos, pow-add, pow_below}
-use Rattle.std.proofs.Math.Nat.{div-div-eq-div-mul, mul-div_cancel, add-mul, mul_assoc, mul_comm, mul-add-div_right, mul-div-mul_right, mul_right_comm, div-mul-le_self, div-one, mul-mod_left}
+use Rattle.std.proofs.Math.Nat.{div-div-eq-div-mul, mul-div_cancel, add-mul, mul_assoc, mul_comm, mul-add-div_right, mul-div-mul_right, mul_right_comm, div-mul-le_self, div-one}
 use Rattle.trie_model.specs.Nets.{Net, IsNet, covers, masked}
 use Rattle.trie_model.specs.Views.{level_of, net_of_bit}
 use Rattle.trie_model.proofs.Places.{and_left, and_right, both_hold, elim-false, not_true, times_cancel, masked_less, level_le}
@@ -193,9 +193,6 @@ bit_table : all_under 5 (λ l. all_under 32 (λ f. ltb (2 ^ l - 1 + f / 2 ^ (5 -
 unfolding all_under
 bit_table = refl
 
-pub bit_small : (l f : ℕ) → l < 5 → f < 32 → 2 ^ l - 1 + f / 2 ^ (5 - l) < 31
-bit_small l f h k = ltb-lt _ _ (under2 5 32 (λ l f. ltb (2 ^ l - 1 + f / 2 ^ (5 - l)) 31) bit_table l f h k)
-
 pub power_small : (l : ℕ) → l < 5 → 2 ^ l < 32
 power_small l h = pow_below l 5 h
 
@@ -293,12 +290,6 @@ bit_above_child w d n len f bit e deep end hb =
     ∙ ap (covers w (net_of_bit w d n bit)) (spot_child w d n f small ∙ place)
     ∙ covers_masked w (net_of_bit w d n bit) n (d + 5) (omega arith)
     ∙ covers_long w (net_of_bit w d n bit) n (d + 5) len (omega arith) (omega arith)
-
--- past the end there are no bits
-pub five_end : (w d n : ℕ) → d ≡ w → 0 ≡ five_bits w d n
-five_end w d n e =
-    let zero : w - d ≡ 0 = omega arith in
-    sym (ap (λ k. n * 32 / 2 ^ k % 32) zero ∙ ap (λ x. x % 32) (div-one (n * 32)) ∙ mul-mod_left n 32)
 
 -- ---- masks of a data bit, in terms of prefixes
 

@@ -1,9 +1,9 @@
 -- Facts about places, nodes and bits.
-use Rattle.std.proofs.Common.{◌≡◌, ◌≢◌, ℕ, ◌+◌, ◌-◌, ◌*◌, ◌/◌, ◌%◌, ◌^◌, ◌<◌, ◌≤◌, ◌∙◌, sym, ap, refl, arith, Bool, true, false, cond, ◌&&◌, leb, min, bit_and}
-use Rattle.std.specs.Int.{bit_at, bit_not, w32}
+use Rattle.std.proofs.Common.{◌≡◌, ◌≢◌, ℕ, ◌+◌, ◌-◌, ◌*◌, ◌/◌, ◌%◌, ◌^◌, ◌<◌, ◌≤◌, ◌∙◌, sym, ap, refl, arith, Bool, true, false, cond, ◌&&◌, leb, min}
+use Rattle.std.specs.Int.{bit_at}
 use Rattle.std.proofs.lemmas.Bool.{eqb-true, eq-eqb, leb-true, le-leb}
 use Rattle.std.proofs.lemmas.Nat.{pow_pos, pow-add, div-add-mod'}
-use Rattle.std.proofs.lemmas.Nat.Bits.{bit_at_and, bit_at_not, bit_at-lt, bit_at_above}
+use Rattle.std.proofs.lemmas.Nat.Bits.{bit_at-lt, bit_at_above}
 use Rattle.std.proofs.Common.{lt_of_not-le}
 use Rattle.std.proofs.Math.Nat.{div-mul-le_self, div-div-eq-div-mul, mul-div_cancel}
 use Rattle.trie_model.specs.Nets.{Net, covers, masked}
@@ -38,9 +38,6 @@ depth_le n = div-mul-le_self n 5
 
 fives : (x y : ℕ) → x * 5 ≤ y * 5 → (x * 5 ≡ y * 5 → ⊥) → x * 5 + 5 ≤ y * 5
 fives x y h ne = let apart : x * 5 ≢ y * 5 = ne in omega (arith, apart)
-
-pub depth_step : (a b : ℕ) → depth_at a ≤ depth_at b → (depth_at a ≡ depth_at b → ⊥) → depth_at a + 5 ≤ depth_at b
-depth_step a b = fives (a / 5) (b / 5)
 
 cond_le : (b : Bool) (x y m : ℕ) → x ≤ m → y ≤ m → cond b x y ≤ m
 cond_le true x y m p q = p
@@ -78,21 +75,11 @@ bit_below k n i h e = elim-lt i k (λ le. omega (arith, bit_at_above n k i h le,
 and_one_l : (x y : ℕ) → min x y ≡ 1 → x < 2 → x ≡ 1
 and_one_l x y e h = omega arith
 
-pub and_bit_l : (a b i : ℕ) → bit_at (bit_and a b) i ≡ 1 → bit_at a i ≡ 1
-and_bit_l a b i h = and_one_l _ _ (sym (bit_at_and a b i) ∙ h) (bit_at-lt a i)
-
 minus_bits : (x y z : ℕ) → min x y ≡ 1 → y ≡ 1 - z → z < 2 → z ≡ 0
 minus_bits x y z e f h = omega arith
 
--- the second number of a difference of masks has the bit 0
-pub and_not_r : (a b i : ℕ) → b < 2 ^ 32 → i < 32 → bit_at (bit_and a (bit_not w32 b)) i ≡ 1 → bit_at b i ≡ 0
-and_not_r a b i fits lt h = minus_bits _ _ _ (sym (bit_at_and a (bit_not w32 b) i) ∙ h) (bit_at_not w32 b i fits lt) (bit_at-lt b i)
-
 minus_set : (x y z : ℕ) → x ≡ 1 → y ≡ 1 - z → z ≡ 0 → min x y ≡ 1
 minus_set x y z e f h = omega arith
-
-pub and_not_set : (a b i : ℕ) → b < 2 ^ 32 → i < 32 → bit_at a i ≡ 1 → bit_at b i ≡ 0 → bit_at (bit_and a (bit_not w32 b)) i ≡ 1
-and_not_set a b i fits lt h k = bit_at_and a (bit_not w32 b) i ∙ minus_set _ _ _ h (bit_at_not w32 b i fits lt) k
 
 -- a bit that isn't 1
 pub not_one : (n i : ℕ) → (bit_at n i ≡ 1 → ⊥) → bit_at n i ≡ 0

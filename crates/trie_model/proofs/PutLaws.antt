@@ -101,10 +101,6 @@ toward_kid w d net n ok deep t long e =
       way = masked_more w d n.bits fits ∙ ap (λ x. x + bits_toward w d 5 n.bits * 2 ^ (w - (d + 5))) t.way ∙ ap (λ c. masked w net.bits d + c * 2 ^ (w - (d + 5))) e ∙ sym (masked_more w d net.bits fits);
     }
 
--- the child there was, or none
-abbrev pub KidWas : {N X : Type 0} → Form N X → ℕ → N → N → Type 0
-KidWas f c node child = ((k : _) → HoldsAt (f.kids node) (f.below node) c k → k ≡ child)
-
 pub kid_puts : {N X : Type 0} (f : Form N X) (w d c : ℕ) (net : Net) (value : X) (old new kid kid' : N) → IsNet w net → d + 5 ≤ net.len → c ≡ bits_toward w d 5 net.bits → PutAt c kid' (f.kids old) (f.below old) (f.kids new) (f.below new) → SameItems f old new → ((n : Net) (x : X) → d + 5 ≤ n.len → bits_toward w d 5 n.bits ≡ c → At f w d old n x ↔ At f w (d + 5) kid n x) → Puts f w (d + 5) net value kid kid' → Puts f w d net value old new
 kid_puts {N} {X} f w d c net value old new kid kid' ok deep is put same was rec = λ n x t. (out_by n x t (less_or n.len (d + 5)), in_by n x t (less_or n.len (d + 5)))
   where

@@ -16,7 +16,7 @@ use Rattle.trie_model.proofs.NodeLaws.{slot-lt, same_some, good_here, good_child
 use Rattle.trie_model.proofs.TrieLaws.{kept_bit}
 use Rattle.trie_model.specs.Puts.{TakenAt, HoldsAt, OneBit, PutAt, At, Toward, Keeps, TakeIn}
 use Rattle.trie_model.proofs.SlotLaws.{same_or, less_or, slots_low, ones_more, slots_high, slot_later, at_plus, put_over}
-use Rattle.trie_model.proofs.PutLaws.{SameKids, SameItems, item_puts, kid_puts, kid_keeps, kid_was, none_was, good_make, here_none, held_at, kid_none}
+use Rattle.trie_model.proofs.PutLaws.{SameKids, SameItems, item_puts, kid_puts, kid_keeps, kid_was, none_was, good_make, here_none, held_at}
 
 -- ---- a bit and its item are taken away: the old ones are the new ones with this one put
 
@@ -130,11 +130,6 @@ kid_good_back f w d c kid old new good t same =
 pub item_takes : {N X : Type 0} (f : Form N X) (w d bit : ℕ) (net : Net) (y : X) (old new : N) → IsNet w net → d ≤ net.len → net.len < d + 5 → bit ≡ data_bit_of w d net.bits net.len → TakenAt bit y (f.marks old) (f.items old) (f.marks new) (f.items new) → SameKids f old new → TakeIn f w d net old new (Some y)
 item_takes f w d bit net y old new ok low high is t same =
     (item_puts f w d bit net y new old ok low high is t.put (record { kids = sym same.kids; below = sym same.below }), here_none f w d bit net new low high is t.gone)
-
--- an emptied child is dropped
-pub kid_dropped : {N X : Type 0} (f : Form N X) (w d c : ℕ) (net : Net) (x : X) (old new kid kid' : N) → IsNet w net → d + 5 ≤ net.len → c ≡ bits_toward w d 5 net.bits → TakenAt c kid (f.kids old) (f.below old) (f.kids new) (f.below new) → SameItems f old new → f.marks kid' ≡ 0 → f.kids kid' ≡ 0 → TakeIn f w (d + 5) net kid kid' (Some x) → TakeIn f w d net old new (Some x)
-kid_dropped f w d c net x old new kid kid' ok deep is t same a b h =
-    (kid_puts f w d c net x new old kid' kid ok deep is t.put (record { marks = sym same.marks; items = sym same.items }) (none_was f w d c new kid' t.gone a b) h.0, kid_none f w d c net new deep is t.gone)
 
 pub clear_bit : (bit m m' : ℕ) → Cleared bit m m' → m < 2 ^ 32 → bit_at m bit ≡ 1 → OneBit bit m' m
 clear_bit bit m m' c fit on = record {

@@ -185,26 +185,6 @@ unset_child w h c t ok a e lt unset =
           unset (subst (λ b. bit_at t.child_bits b ≡ 1) in_child.1 (ok.below n x p in_child.0)),
     ))
 
-pub took_data : {X : Type 0} (w h bit : ℕ) (t u : Told X) → IsView w t → Ahead w t h → h ≡ bit + 1 → bit < 31 → TookData w bit t u → Ahead w u (next_spot h)
-took_data w h bit t u ok a e lt took =
-    ahead_next w h t u ok a (omega arith) (omega arith) took.place
-    (λ n x p.
-    let was = (took.at n x).0 p in
-    (was.0, λ q. elim-false (sym was.1 ∙ same_net_is (data_net w t.place bit) n (spot_data w t ok bit lt n x was.0 (q ∙ e)).0)))
-
-pub took_child : {X : Type 0} (w h c : ℕ) (t u : Told X) → IsView w t → Ahead w t h → h ≡ 32 + c → c < 32 → bit_at t.child_bits c ≡ 1 → TookChild w c t u → Ahead w u (next_spot h)
-took_child w h c t u ok a e lt set took =
-    ahead_next w h t u ok a (omega arith) (omega arith) took.place
-    (λ n x p.
-    let was = (took.at n x).0 p in (
-      was.0,
-      λ q.
-          let d : ℕ = depth_at t.place.len in
-          let in_child = spot_child_pair w t ok c n x was.0 (q ∙ e) in
-          let way = covers_way w d t.place n ok.place_ok.len_fits (depth_le t.place.len) (ok.pairs n x was.0).1 in
-          elim-false (sym was.1 ∙ ap (λ b. covers w (child_net w t.place b) n) (sym in_child.1) ∙ toward_covers w t.place n (ok.deep c set) in_child.0 way),
-    ))
-
 -- ---- the item of a data bit is the first
 
 pub data_first : {X : Type 0} (w h bit : ℕ) (t u : Told X) → IsView w t → Ahead w t h → h ≡ bit + 1 → bit < 31 → TookData w bit t u → (m : Net) (x y : X) → t.at (data_net w t.place bit) x → u.at m y → order_key w (data_net w t.place bit) < order_key w m
@@ -234,11 +214,6 @@ child_first w h c t u child ok a e lt set is took n m x y p q =
     (λ k.
     let there = spot_child_pair w t ok c m y was.0 (k ∙ e) in
     elim-false (sym was.1 ∙ ap (λ b. covers w (child_net w t.place b) m) (sym there.1) ∙ toward_covers w t.place m deep there.0 way_m))
-
--- a view whose walk begins
-pub ahead_start : {X : Type 0} (w : ℕ) (t : Told X) → Ahead w t 1
-unfolding Ahead
-ahead_start w t n x h = omega arith
 
 pub nothing_left : {L X : Type 0} (tell : L → Told X) (ls : List L) → length ls ≡ 0 → (n : Net) (x : X) → Left tell ls n x → ⊥
 unfolding Left

@@ -1,5 +1,5 @@
 -- What one step of a walk does to the stack.
-use Rattle.std.proofs.Common.{◌≡◌, ℕ, ◌+◌, ◌<◌, sym, ap, subst, refl, arith, Bool, true, false, List, [], ◌∷◌, ◌++◌, inl, inr}
+use Rattle.std.proofs.Common.{◌≡◌, ℕ, ◌+◌, ◌<◌, sym, ap, subst, refl, arith, Bool, true, false, List, [], ◌∷◌, ◌++◌, inl}
 use Rattle.std.specs.Prelude.{◌↔◌}
 use Rattle.std.specs.Int.{bit_at}
 use Rattle.trie_model.specs.Nets.{Net, covers}
@@ -7,7 +7,7 @@ use Rattle.trie_model.specs.Views.{data_net, child_net, same_net, Told, TookData
 use Rattle.trie_model.proofs.Places.{not_true}
 use Rattle.trie_model.specs.Heap.{order_key}
 use Rattle.trie_model.proofs.TrieLaws.{same_back}
-use Rattle.trie_model.specs.Walks.{Left, Sorted, Ahead, LevelOk, EachOk, WalkOk, Gives, Within, Ascends, IsListOf}
+use Rattle.trie_model.specs.Walks.{Left, Sorted, Ahead, LevelOk, EachOk, WalkOk, Gives}
 use Rattle.trie_model.proofs.WalkLaws.{left_top, left_under, left_cases, either, sorted_push, sorted_under, sorted_top, ahead_end, data_first, child_first}
 
 pub each_push : {L X : Type 0} (good : L → Type 0) (tell : L → Told X) (spot : L → ℕ) (w : ℕ) (ls : List L) (l : L) → EachOk good tell spot w ls → LevelOk good tell spot w l → EachOk good tell spot w (ls ++ l ∷ [])
@@ -96,19 +96,6 @@ walk_child good tell spot w ls l u c bit ok lt e set is took level child =
     )
 
 -- ---- the list
-
--- what is given first stands before the list of the rest
-pub list_of_given : {L X : Type 0} (w : ℕ) (tell : L → Told X) (old new : List L) (n : Net) (x : X) (ps : List (Net × X)) → ((m : Net) (y : X) → Left tell old m y → same_net n m ≡ true → x ≡ y) → Gives w tell old new n x → IsListOf w (Left tell new) ps → IsListOf w (Left tell old) ((n, x) ∷ ps)
-unfolding Within Ascends
-list_of_given w tell old new n x ps one gives is = record {
-  ascends = ((λ m y h. gives.least m y ((is.same m y).0 h)), is.ascends);
-  same = λ m y. (
-    (λ h. either (λ k. subst (λ z. Left tell old m z) k.1 (subst (λ p. Left tell old p x) k.0 gives.had)) (λ k. ((gives.others m y).0 ((is.same m y).0 k)).0) h),
-    (λ h. by_covers (same_net n m)
-        (λ t. inl (same_back n m t, one m y h t))
-        (λ f. inr ((is.same m y).1 ((gives.others m y).1 (h, f))))),
-  );
-}
 
 -- what was left before is what was left at first
 pub gives_from : {L X : Type 0} (w : ℕ) (tell : L → Told X) (old mid new : List L) (n : Net) (x : X) → ((m : Net) (y : X) → Left tell mid m y ↔ Left tell old m y) → Gives w tell mid new n x → Gives w tell old new n x
