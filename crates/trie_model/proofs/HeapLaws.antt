@@ -263,10 +263,6 @@ spot_order w d h k a b = by_value w d h k a b (ltb (value_at h) (value_at k)) re
 
 -- ---- the next spot
 
-next_table : all_under 64 (λ h. if_then (ltb 0 h) (ltb (rank_at h) (rank_at (next_spot h)) && ltb h (next_spot h * 64) && leb (next_spot h) 64)) ≡ true
-unfolding all_under
-next_table = refl
-
 gap_table : all_under 64 (λ h. all_under 64 (λ k. if_then (ltb 0 h && ltb 0 k && ltb (rank_at k) (rank_at (next_spot h))) (leb (rank_at k) (rank_at h)))) ≡ true
 unfolding all_under
 gap_table = refl

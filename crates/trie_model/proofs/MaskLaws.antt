@@ -189,10 +189,6 @@ five_shift w d n h le =
 
 -- ---- a data bit of the five bits
 
-bit_table : all_under 5 (λ l. all_under 32 (λ f. ltb (2 ^ l - 1 + f / 2 ^ (5 - l)) 31)) ≡ true
-unfolding all_under
-bit_table = refl
-
 pub power_small : (l : ℕ) → l < 5 → 2 ^ l < 32
 power_small l h = pow_below l 5 h
 

@@ -1,5 +1,5 @@
 -- Facts about places, nodes and bits.
-use Rattle.std.proofs.Common.{◌≡◌, ◌≢◌, ℕ, ◌+◌, ◌-◌, ◌*◌, ◌/◌, ◌%◌, ◌^◌, ◌<◌, ◌≤◌, ◌∙◌, sym, ap, refl, arith, Bool, true, false, cond, ◌&&◌, leb, min}
+use Rattle.std.proofs.Common.{◌≡◌, ◌≢◌, ℕ, ◌+◌, ◌-◌, ◌*◌, ◌/◌, ◌%◌, ◌^◌, ◌<◌, ◌≤◌, ◌∙◌, sym, ap, refl, arith, Bool, true, false, cond, ◌&&◌, leb}
 use Rattle.std.specs.Int.{bit_at}
 use Rattle.std.proofs.lemmas.Bool.{eqb-true, eq-eqb, leb-true, le-leb}
 use Rattle.std.proofs.lemmas.Nat.{pow_pos, pow-add, div-add-mod'}
@@ -36,9 +36,6 @@ not_true false h = refl
 pub depth_le : (n : ℕ) → depth_at n ≤ n
 depth_le n = div-mul-le_self n 5
 
-fives : (x y : ℕ) → x * 5 ≤ y * 5 → (x * 5 ≡ y * 5 → ⊥) → x * 5 + 5 ≤ y * 5
-fives x y h ne = let apart : x * 5 ≢ y * 5 = ne in omega (arith, apart)
-
 cond_le : (b : Bool) (x y m : ℕ) → x ≤ m → y ≤ m → cond b x y ≤ m
 cond_le true x y m p q = p
 cond_le false x y m p q = q
@@ -71,15 +68,6 @@ elim-lt i k h = lt_of_not-le h
 
 pub bit_below : (k n i : ℕ) → n < 2 ^ k → bit_at n i ≡ 1 → i < k
 bit_below k n i h e = elim-lt i k (λ le. omega (arith, bit_at_above n k i h le, e))
-
-and_one_l : (x y : ℕ) → min x y ≡ 1 → x < 2 → x ≡ 1
-and_one_l x y e h = omega arith
-
-minus_bits : (x y z : ℕ) → min x y ≡ 1 → y ≡ 1 - z → z < 2 → z ≡ 0
-minus_bits x y z e f h = omega arith
-
-minus_set : (x y z : ℕ) → x ≡ 1 → y ≡ 1 - z → z ≡ 0 → min x y ≡ 1
-minus_set x y z e f h = omega arith
 
 -- a bit that isn't 1
 pub not_one : (n i : ℕ) → (bit_at n i ≡ 1 → ⊥) → bit_at n i ≡ 0
