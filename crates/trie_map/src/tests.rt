@@ -1,7 +1,10 @@
 //! Each public call once, and the places where nodes meet.
 
+ghost use Rattle.std.specs.Prelude.{◌≡◌, ◌≤◌, IsSome, None};
+ghost use Rattle.trie_model.specs.Maps.{inserted, value_at};
+
 use crate::{
-    Prefix, PrefixMap, PrefixSet, Steps, TrieView, TryClone, child_bit, child_cover_mask,
+    Place, Prefix, PrefixMap, PrefixSet, Steps, TrieView, TryClone, child_bit, child_cover_mask,
     child_cover_mask_for_bit, data_bit, data_cover_mask, data_cover_mask_for_bit, data_lpm_mask,
     extend_repr, mask_from_prefix_len, reconstruct_prefix,
 };
@@ -251,17 +254,28 @@ fn clones(rt: HostRuntime) -> Result<(), Fail> {
     Ok(())
 }
 
+/// Writes the value of a prefix that has one: what a caller of `get_mut` knows.
+fn overwrite<P: Place, T: Drop>(map: &mut PrefixMap<P, T>, prefix: &P, value: T)
+    requires { (P.net prefix.now).len ≤ P.Number.width }
+    ensures there { IsSome (value_at map.old (P.net prefix.now)) → map.new ≡ inserted P.Number.width map.old (P.net prefix.now) value }
+    ensures not_there { value_at map.old (P.net prefix.now) ≡ None → map.new ≡ map.old }
+{
+    if let Some(item) = map.get_mut(prefix) {
+        *item = value;
+    }
+}
+
 #[test]
 fn items_are_written_in_place(rt: HostRuntime) -> Result<(), Fail> {
     let mut map: PrefixMap<(u128, u8), u32> = PrefixMap::new(rt.alloc());
     assert_eq!(rt; map.insert((0, 0), 1), Ok(None));
     assert_eq!(rt; map.insert((5, 128), 2), Ok(None));
     assert!(rt; map.get_mut(&(4, 127)).is_none());
-    if let Some(item) = map.get_mut(&(5, 128)) {
-        *item = 7;
-    }
+    overwrite(&mut map, &(5, 128), 7);
+    overwrite(&mut map, &(4, 127), 8);
     assert_eq!(rt; map.get(&(5, 128)).copied(), Some(7));
     assert_eq!(rt; map.get(&(0, 0)).copied(), Some(1));
+    assert_eq!(rt; map.len(), 2);
     Ok(())
 }
 
