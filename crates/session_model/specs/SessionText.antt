@@ -1,7 +1,8 @@
 -- The text of a session: for each record in order, what is sent, the arrivals that nothing awaits, the replies, the streams
 -- that close.
-use Rattle.std.specs.Prelude.{◌+◌, ◌&&◌, ℕ, Bool, false, not, if◌then◌else◌, List, [], ◌∷◌, ◌++◌, map, length, Option, Some, None, is_none, flat_map, codes}
+use Rattle.std.specs.Prelude.{◌≡◌, ◌+◌, ◌&&◌, ℕ, Result, Bool, false, not, if◌then◌else◌, List, [], ◌∷◌, ◌++◌, map, length, Option, Some, None, is_none, flat_map, codes}
 use Rattle.std.specs.Fmt.{decimal}
+use Rattle.nl_core.specs.declared.error.DecodeError.{DecodeError}
 use Rattle.nl_core.specs.Frames.{Format, header_text, payload_text, payload_fits}
 use Rattle.nl_core.specs.declared.message.NetlinkMessage.{NetlinkMessage}
 use Rattle.nl_core.specs.declared.message.NetlinkPayload.{NetlinkPayload}
@@ -9,7 +10,7 @@ use Rattle.nl_core.specs.declared.message.NetlinkPayload.TheVariants.{Done, Erro
 use Rattle.session_model.specs.declared.awaited.Awaited.{Awaited}
 use Rattle.session_model.specs.declared.settings.Settings.{Settings}
 use Rattle.session_model.specs.declared.transcript.Record.{Record}
-use Rattle.session_model.specs.Events.{Event, Sent, Came, Unread, Leftover, Overran, Shut, Other, Asked, Arrival, arrival_of, arrivals, record_events}
+use Rattle.session_model.specs.Events.{Event, Sent, Came, Unread, Leftover, Overran, Shut, Other, Asked, Arrival, arrival_of, arrivals, events_of, record_events}
 use Rattle.session_model.specs.Awaited.{awaited, last_number, first_bearing}
 use Rattle.session_model.specs.Streams.{closing}
 use Rattle.session_model.specs.Lines.{hex_word, line}
@@ -102,3 +103,9 @@ module _ {M : Type 0} (f : Format M) (s : Settings) where
 
   abbrev pub session_text : List Record → List ℕ
   session_text rs = text_after [] rs
+
+-- The text of a record stands behind that of the records before it, and depends on these alone.
+abbrev pub TextGrows : {M : Type 0} → (ℕ → List ℕ → Result M DecodeError) → (M → ℕ) → (M → List ℕ) → (M → Bool) → Type 0
+TextGrows {M} reads kind text fits =
+    let f : Format M = record { reads = reads; kind = kind; text = text; fits = fits } in
+    (s : Settings) (rs : List Record) (r : Record) → session_text f s (rs ++ r ∷ []) ≡ session_text f s rs ++ text_of_events f s (events_of f rs) (record_events f r)

@@ -11,7 +11,7 @@ pub enum Mark {
 }
 
 /// One frame of a batch, as written.
-#[derive(PartialEq, Eq, Drop)]
+#[derive(Debug, PartialEq, Eq, Drop)]
 pub struct BatchFrame {
     pub mark: Mark,
     pub bytes: Octets,
@@ -19,7 +19,7 @@ pub struct BatchFrame {
 
 /// One line of a transcript: a datagram that came, an overrun of the link, its close, or one request of any number of
 /// frames.
-#[derive(PartialEq, Eq, Drop)]
+#[derive(Debug, PartialEq, Eq, Drop)]
 pub enum Record {
     Recv {
         source: SocketAddr,

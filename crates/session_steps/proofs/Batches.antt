@@ -1,5 +1,6 @@
 -- What a batch changes.
-use Rattle.std.proofs.Common.{◌≡◌, ◌+◌, ◌<◌, ◌≤◌, ◌==◌, ◌&&◌, ◌||◌, ℕ, zero, suc, Bool, true, false, not, cond, nat_lt, List, [], ◌∷◌, ◌++◌, length, get_or, Option, Some, None, is_some, Result, Ok, Err, flat_map, codes, refl, sym, ◌∙◌, ap, subst, append_assoc, arith}
+use Rattle.std.proofs.Common.{◌≡◌, ◌+◌, ◌<◌, ◌≤◌, ◌==◌, ◌&&◌, ◌||◌, ℕ, zero, suc, Bool, true, false, not, cond, nat_lt, List, [], ◌∷◌, ◌++◌, length, get_or, Option, Some, None, is_some, Result, Ok, Err, flat_map, codes, refl, sym, ◌∙◌, ap, subst, append_assoc, arith, add-zero, zero-add}
+use Rattle.std.proofs.Math.Bool.{or-false, and-true, and-false}
 use Rattle.std.specs.List.{filter, list_all}
 use Rattle.std.specs.Fmt.{decimal}
 use Rattle.std.proofs.lemmas.List.{length-append}
@@ -29,21 +30,11 @@ use Rattle.session_steps.specs.After.{session_after, is_empty_list, TakesOutgoin
 use Rattle.session_steps.specs.Counts.{awaited_in, open_count, if_any, Counts}
 use Rattle.session_steps.specs.Requests.{message_in, mark_in, messages_in, marks_in, marked, Opens}
 use Rattle.session_steps.proofs.Rising.{has, Rises, filtered}
-use Rattle.session_steps.proofs.Waiting.{awaited_in-append, awaited_in-cons, awaited_of, none_later, open_counts}
+use Rattle.session_steps.proofs.Waiting.{awaited_in-append, awaited_in-cons, awaited_of, none_later, open_counts, turned}
 use Rattle.session_steps.proofs.Stages.{counted_up}
 
 abbrev no_outgoing : {M : Type 0} → Session M ℕ → Session M ℕ
 no_outgoing s = record s { outgoing = [] }
-
-plus0 : (n : ℕ) → n + 0 ≡ n
-plus0 n = omega arith
-
-zero-plus : (n : ℕ) → 0 + n ≡ n
-zero-plus n = omega arith
-
-or-false : (b : Bool) → (b || false) ≡ b
-or-false true = refl
-or-false false = refl
 
 get_or-seam : (xs ys : List Bool) (b : Bool) → get_or (xs ++ b ∷ ys) (length xs) false ≡ b
 get_or-seam [] ys b = refl
@@ -107,9 +98,6 @@ module _ {M : Type 0} (f : Format M) where
       none false = refl
   newly_counted k stream port (x ∷ xs) last = by (λ n. newly_counted k stream port xs n) (frame_at f.reads x.bytes)
     where
-      turned : (a c : ℕ) → (a == c) ≡ (c == a)
-      turned a c = grind (arith, nat_tests)
-
       plus1 : (n : ℕ) → 1 + n ≡ suc n
       plus1 n = omega arith
 
@@ -244,8 +232,8 @@ module _ {M : Type 0} (f : Format M) (s : Settings) (es : List (Event M)) (to : 
       by : (b : Bool) → (k == stream) ≡ b → cond (b && not (count == 0)) (Some count) (at k) ≡ if_any (open_count s.start es k + cond b count 0)
       by true e =
           let none : open_count s.start es k ≡ 0 = none_yet k (subst (λ j. batch_count 0 es < j) (sym (it k stream e)) low) in
-          some count (at k) (counts k ∙ ap if_any none) ∙ ap if_any (sym (zero-plus count)) ∙ ap (λ n. if_any (n + count)) (sym none)
-      by false e = counts k ∙ ap if_any (sym (plus0 (open_count s.start es k)))
+          some count (at k) (counts k ∙ ap if_any none) ∙ ap if_any (sym (zero-add count)) ∙ ap (λ n. if_any (n + count)) (sym none)
+      by false e = counts k ∙ ap if_any (sym (add-zero (open_count s.start es k)))
 
   -- A batch closes its own stream where it awaits nothing, and no other.
   closing_sent : is_shut es ≡ false → closing s.start es (Sent to (asked f frames) ∷ []) ≡ cond (count == 0) (stream ∷ []) []
@@ -257,9 +245,6 @@ module _ {M : Type 0} (f : Format M) (s : Settings) (es : List (Event M)) (to : 
       rising : (b : Bool) → Rises (cond b (stream ∷ []) [])
       rising true = (tt, tt)
       rising false = tt
-
-      turned : (a c : ℕ) → (a == c) ≡ (c == a)
-      turned a c = grind (arith, nat_tests)
 
       streams : batch_count 1 after ≡ stream + 1
       streams = batch_count-append 1 es (Sent to (asked f frames) ∷ []) ∙ ap (λ n. n + 1) (counted_up 0 es)
@@ -273,15 +258,7 @@ module _ {M : Type 0} (f : Format M) (s : Settings) (es : List (Event M)) (to : 
 
       has_one : (k : ℕ) (b : Bool) → has k (cond b (stream ∷ []) []) ≡ ((k == stream) && b)
       has_one k true = or-false (stream == k) ∙ turned stream k ∙ sym (and-true (k == stream))
-        where
-          and-true : (c : Bool) → (c && true) ≡ c
-          and-true true = refl
-          and-true false = refl
       has_one k false = sym (and-false (k == stream))
-        where
-          and-false : (c : Bool) → (c && false) ≡ false
-          and-false true = refl
-          and-false false = refl
 
       and-not : (d : Bool) → (d && not d) ≡ false
       and-not true = refl
@@ -306,13 +283,9 @@ module _ {M : Type 0} (f : Format M) (s : Settings) (es : List (Event M)) (to : 
           sym (ap (λ c. (c && not (is_some (if_any (open_count s.start es k + count)))) && not (nat_lt k stream && not (is_some (if_any (open_count s.start es k))))) first
           ∙ ap (λ c. not (is_some (if_any (open_count s.start es k + count))) && not (c && not (is_some (if_any (open_count s.start es k))))) second
           ∙ and-true (not (is_some (if_any (open_count s.start es k + count))))
-          ∙ ap (λ n. not (is_some (if_any (n + count)))) none ∙ ap (λ n. not (is_some (if_any n))) (zero-plus count) ∙ zero_test count)
-        where
-          and-true : (c : Bool) → (c && true) ≡ c
-          and-true true = refl
-          and-true false = refl
+          ∙ ap (λ n. not (is_some (if_any (n + count)))) none ∙ ap (λ n. not (is_some (if_any n))) (zero-add count) ∙ zero_test count)
       by k false e =
-          sym (ap (λ n. (nat_lt k (stream + 1) && not (is_some (if_any n))) && not (nat_lt k stream && not (is_some (if_any (open_count s.start es k))))) (plus0 (open_count s.start es k))
+          sym (ap (λ n. (nat_lt k (stream + 1) && not (is_some (if_any n))) && not (nat_lt k stream && not (is_some (if_any (open_count s.start es k))))) (add-zero (open_count s.start es k))
           ∙ ap (λ c. (c && not (is_some (if_any (open_count s.start es k)))) && not (nat_lt k stream && not (is_some (if_any (open_count s.start es k))))) (lts k stream e)
           ∙ and-not (nat_lt k stream && not (is_some (if_any (open_count s.start es k)))))
 

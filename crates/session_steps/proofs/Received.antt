@@ -1,5 +1,6 @@
 -- One event more of a record that receives.
-use Rattle.std.proofs.Common.{◌≡◌, ◌+◌, ◌-◌, ◌==◌, ◌&&◌, ◌||◌, ℕ, zero, suc, Bool, true, false, not, cond, List, [], ◌∷◌, ◌++◌, length, nat_lt, Option, is_some, refl, sym, ◌∙◌, ap, append_assoc, arith}
+use Rattle.std.proofs.Common.{◌≡◌, ◌+◌, ◌-◌, ◌==◌, ◌&&◌, ◌||◌, ℕ, zero, suc, Bool, true, false, not, cond, List, [], ◌∷◌, ◌++◌, length, nat_lt, Option, is_some, refl, sym, ◌∙◌, ap, append_assoc, arith, add-zero, zero-add}
+use Rattle.std.proofs.Math.Bool.{or-false, and-true, and-false}
 use Rattle.std.specs.List.{filter, list_any}
 use Rattle.std.proofs.lemmas.List.{length-append}
 use Rattle.std.proofs.lemmas.List.Folds.{list_any-append}
@@ -31,21 +32,14 @@ unread kind number source = record { arrivals = refl; awaits = λ last batches. 
 pub leftover : {M : Type 0} (count : ℕ) (source : SocketAddr) → Brings {M = M} (Leftover count source) []
 leftover count source = record { arrivals = refl; awaits = λ last batches. refl; frames = refl; batches = refl; stays_open = refl; silent = λ last. refl }
 
-or-false : (b : Bool) → (b || false) ≡ b
-or-false true = refl
-or-false false = refl
-
-plus0 : (n : ℕ) → n + 0 ≡ n
-plus0 n = omega arith
-
 -- ---- what one event more changes
 
 module _ {M : Type 0} (start : ℕ) (es : List (Event M)) (e : Event M) (brought : List (Arrival M)) (brings : Brings e brought) where
   last_same : last_number start (es ++ e ∷ []) ≡ last_number start es
-  last_same = last_number-append start es (e ∷ []) ∙ ap (λ n. last_number start es + n) brings.frames ∙ plus0 (last_number start es)
+  last_same = last_number-append start es (e ∷ []) ∙ ap (λ n. last_number start es + n) brings.frames ∙ add-zero (last_number start es)
 
   pub streams_same : batch_count 0 (es ++ e ∷ []) ≡ batch_count 0 es
-  streams_same = batch_count-append 0 es (e ∷ []) ∙ ap (λ n. batch_count 0 es + n) brings.batches ∙ plus0 (batch_count 0 es)
+  streams_same = batch_count-append 0 es (e ∷ []) ∙ ap (λ n. batch_count 0 es + n) brings.batches ∙ add-zero (batch_count 0 es)
 
   pub shut_same : is_shut (es ++ e ∷ []) ≡ is_shut es
   shut_same = list_any-append shuts es (e ∷ []) ∙ ap (λ b. is_shut es || (b || false)) brings.stays_open ∙ or-false (is_shut es)
@@ -136,12 +130,9 @@ module _ {M : Type 0} (start : ℕ) (before es : List (Event M)) (e : Event M) (
       fallen : (k c n m : ℕ) (at : ℕ → Option ℕ) → at c ≡ if_any (cond (c == c) 1 0 + n) → at k ≡ if_any (cond (k == c) 1 0 + m) → (k ≡ c → m ≡ n) → cond (k == c) (one_less (at c)) (at k) ≡ if_any m
       fallen k c n m at at_c at_k same = by (k == c) refl
         where
-          zero-plus : (x : ℕ) → 0 + x ≡ x
-          zero-plus x = omega arith
-
           by : (b : Bool) → (k == c) ≡ b → cond b (one_less (at c)) (at k) ≡ if_any m
           by true eq = ap one_less (at_c ∙ ap (λ b. if_any (cond b 1 0 + n)) (own c)) ∙ one_fell n ∙ ap if_any (sym (same (it k c eq)))
-          by false eq = at_k ∙ ap (λ b. if_any (cond b 1 0 + m)) eq ∙ ap if_any (zero-plus m)
+          by false eq = at_k ∙ ap (λ b. if_any (cond b 1 0 + m)) eq ∙ ap if_any (zero-add m)
 
       or-true : (b : Bool) → (b || true) ≡ true
       or-true true = refl
@@ -157,9 +148,6 @@ module _ {M : Type 0} (start : ℕ) (before es : List (Event M)) (e : Event M) (
           → (b || is_some (if_any (cond (k == c) 1 0 + m))) ≡ ((cond (k == c) (is_last_one o) false || b) || is_some (if_any m))
       shutting k c n m b o is same = by (k == c) refl
         where
-          zero-plus : (x : ℕ) → 0 + x ≡ x
-          zero-plus x = omega arith
-
           count : (x : ℕ) → x ≡ n → (b || is_some (if_any (1 + x))) ≡ ((is_last_one (if_any (1 + n)) || b) || is_some (if_any x))
           count zero eq = or-true b ∙ sym (ap (λ z. (is_last_one (if_any (1 + z)) || b) || false) (sym eq))
           count (suc x) eq = ap (λ z. b || is_some (if_any z)) (one_more (suc x)) ∙ or-true b ∙ sym (or-true (is_last_one (if_any (1 + n)) || b))
@@ -169,23 +157,12 @@ module _ {M : Type 0} (start : ℕ) (before es : List (Event M)) (e : Event M) (
 
           by : (d : Bool) → (k == c) ≡ d → (b || is_some (if_any (cond d 1 0 + m))) ≡ ((cond d (is_last_one o) false || b) || is_some (if_any m))
           by true eq = count m (same (it k c eq)) ∙ ap (λ z. (is_last_one z || b) || is_some (if_any m)) (sym (is ∙ ap (λ d. if_any (cond d 1 0 + n)) (own c)))
-          by false eq = ap (λ x. b || is_some (if_any x)) (zero-plus m)
+          by false eq = ap (λ x. b || is_some (if_any x)) (zero-add m)
 
       parting : (k c n m : ℕ) (b : Bool) (o : Option ℕ) → o ≡ if_any (cond (c == c) 1 0 + n) → (k ≡ c → m ≡ n) → (b && is_some (if_any (cond (k == c) 1 0 + m))) ≡ false
           → ((cond (k == c) (is_last_one o) false || b) && is_some (if_any m)) ≡ false
       parting k c n m b o is same apart = by (k == c) refl apart
         where
-          zero-plus : (x : ℕ) → 0 + x ≡ x
-          zero-plus x = omega arith
-
-          and-false : (d : Bool) → (d && false) ≡ false
-          and-false true = refl
-          and-false false = refl
-
-          and-true : (d : Bool) → (d && true) ≡ d
-          and-true true = refl
-          and-true false = refl
-
           count : (x : ℕ) → x ≡ n → (b && is_some (if_any (1 + x))) ≡ false → ((is_last_one (if_any (1 + n)) || b) && is_some (if_any x)) ≡ false
           count zero eq h = and-false (is_last_one (if_any (1 + n)) || b)
           count (suc x) eq h =
@@ -195,4 +172,4 @@ module _ {M : Type 0} (start : ℕ) (before es : List (Event M)) (e : Event M) (
 
           by : (d : Bool) → (k == c) ≡ d → (b && is_some (if_any (cond d 1 0 + m))) ≡ false → ((cond d (is_last_one o) false || b) && is_some (if_any m)) ≡ false
           by true eq h = ap (λ z. (is_last_one z || b) && is_some (if_any m)) (is ∙ ap (λ d. if_any (cond d 1 0 + n)) (own c)) ∙ count m (same (it k c eq)) h
-          by false eq h = ap (λ x. b && is_some (if_any x)) (sym (zero-plus m)) ∙ h
+          by false eq h = ap (λ x. b && is_some (if_any x)) (sym (zero-add m)) ∙ h

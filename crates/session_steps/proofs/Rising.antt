@@ -1,5 +1,6 @@
 -- Lists of numbers that rise: such a list is known by which numbers stand in it.
 use Rattle.std.proofs.Common.{◌≡◌, ◌≢◌, ◌<◌, ◌≤◌, ◌==◌, ◌&&◌, ◌||◌, ℕ, zero, suc, Bool, true, false, cond, List, [], ◌∷◌, ◌++◌, refl, sym, ◌∙◌, ap, subst, arith}
+use Rattle.std.proofs.Math.Bool.{and-false}
 use Rattle.std.specs.List.{filter, list_any, AllByRecursion}
 use Rattle.std.specs.List.Sorted.{IsStrictlySortedBy}
 use Rattle.std.specs.declared.cmp.Ordering.TheVariants.{Less}
@@ -76,11 +77,7 @@ same_numbers (x ∷ xs) (y ∷ ys) r s h = by (λ g. same_numbers xs ys r.1 s.1 
 -- ---- the numbers up to a bound that pass a test
 
 has-filter : (p : ℕ → Bool) (k : ℕ) (xs : List ℕ) → has k (filter p xs) ≡ (p k && has k xs)
-has-filter p k [] = and-false (p k)
-  where
-    and-false : (b : Bool) → false ≡ (b && false)
-    and-false true = refl
-    and-false false = refl
+has-filter p k [] = sym (and-false (p k))
 has-filter p k (x ∷ xs) = by (has-filter p k xs) (p x) refl (x == k) refl
   where
     by : has k (filter p xs) ≡ (p k && has k xs) → (b : Bool) → p x ≡ b → (c : Bool) → (x == k) ≡ c → has k (cond b (x ∷ filter p xs) (filter p xs)) ≡ (p k && (c || has k xs))

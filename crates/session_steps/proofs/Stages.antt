@@ -1,5 +1,6 @@
 -- How a record comes further, event by event, and its text at its end.
-use Rattle.std.proofs.Common.{◌≡◌, ◌+◌, ◌<◌, ◌≤◌, ◌==◌, ◌&&◌, ◌||◌, ℕ, Bool, true, false, not, cond, nat_lt, List, [], ◌∷◌, ◌++◌, length, map, Option, Some, None, is_some, flat_map, refl, sym, ◌∙◌, ap, subst, append_assoc, arith}
+use Rattle.std.proofs.Common.{◌≡◌, ◌+◌, ◌<◌, ◌≤◌, ◌==◌, ◌&&◌, ◌||◌, ℕ, Bool, true, false, not, cond, nat_lt, List, [], ◌∷◌, ◌++◌, length, map, Option, Some, None, is_some, flat_map, refl, sym, ◌∙◌, ap, subst, append_assoc, arith, add-zero}
+use Rattle.std.proofs.Math.Bool.{or-false, and-false}
 use Rattle.std.specs.List.{filter, list_any}
 use Rattle.std.proofs.lemmas.Grind.{flat_map-append}
 use Rattle.std.proofs.lemmas.List.Folds.{list_any-append}
@@ -28,13 +29,6 @@ no_incoming s = record s { incoming = [] }
 
 abbrev no_responses : {M : Type 0} → Session M ℕ → Session M ℕ
 no_responses s = record s { responses = [] }
-
-or-false : (b : Bool) → (b || false) ≡ b
-or-false true = refl
-or-false false = refl
-
-plus0 : (n : ℕ) → n + 0 ≡ n
-plus0 n = omega arith
 
 placed-append : {M : Type 0} (start : ℕ) (before es fs : List (Event M)) → placed start before (es ++ fs) ≡ placed start before es ++ placed start (before ++ es) fs
 placed-append start before [] fs = ap (λ bs. placed start bs fs) (sym (append-nil before))
@@ -80,7 +74,7 @@ module _ {M : Type 0} (f : Format M) (s : Settings) (before es : List (Event M))
       let shut = shut_same s.start xs e [] brings in
       let both = stays s.start before es e at at closed closed same shut (record { left = λ k. refl; shut = λ k. refl }) h.counts h.closes in
       record {
-        stands = h.stands ∙ ap (λ n. record { last = last_number s.start xs; awaited = awaited s.start xs; arrived = n; responses = []; incoming = []; outgoing = [] }) (sym (plus0 (length (arrivals xs))))
+        stands = h.stands ∙ ap (λ n. record { last = last_number s.start xs; awaited = awaited s.start xs; arrived = n; responses = []; incoming = []; outgoing = [] }) (sym (add-zero (length (arrivals xs))))
             ∙ sym (session_more s.start xs e [] brings (awaited s.start xs) same) ∙ ap (session_after s.start) whole;
         counts = both.0;
         closes = both.1;
@@ -256,7 +250,7 @@ module _ {M : Type 0} (f : Format M) (s : Settings) (before : List (Event M)) wh
 
   pub shut_session : session_after s.start (before ++ Shut ∷ []) ≡ session_after s.start before
   shut_session =
-      ap (λ n. of n (awaited s.start (before ++ Shut ∷ [])) (length (arrivals (before ++ Shut ∷ [])))) (last_number-append s.start before (Shut ∷ []) ∙ plus0 (last_number s.start before))
+      ap (λ n. of n (awaited s.start (before ++ Shut ∷ [])) (length (arrivals (before ++ Shut ∷ [])))) (last_number-append s.start before (Shut ∷ []) ∙ add-zero (last_number s.start before))
       ∙ ap (λ ws. of (last_number s.start before) ws (length (arrivals (before ++ Shut ∷ []))))
       (awaited_more s.start 0 before Shut ∙ append-nil (filter (λ w. true) (awaited s.start before)) ∙ filter-all (awaited s.start before))
       ∙ ap (λ n. of (last_number s.start before) (awaited s.start before) n) (ap length (arrivals-append before (Shut ∷ []) ∙ append-nil (arrivals before)))
@@ -265,7 +259,7 @@ module _ {M : Type 0} (f : Format M) (s : Settings) (before : List (Event M)) wh
       of last ws arrived = record { last = last; awaited = ws; arrived = arrived; responses = []; incoming = []; outgoing = [] }
 
   pub shut_streams : batch_count 0 (before ++ Shut ∷ []) ≡ batch_count 0 before
-  shut_streams = batch_count-append 0 before (Shut ∷ []) ∙ plus0 (batch_count 0 before)
+  shut_streams = batch_count-append 0 before (Shut ∷ []) ∙ add-zero (batch_count 0 before)
 
   -- After a close no stream is open.
   pub shut_counts : (at : ℕ → Option ℕ) → ((k : ℕ) → at k ≡ None) → Counts at s.start (before ++ Shut ∷ [])
@@ -283,7 +277,3 @@ module _ {M : Type 0} (f : Format M) (s : Settings) (before : List (Event M)) wh
     where
       gone : (k : ℕ) → is_open s.start (before ++ Shut ∷ []) k ≡ false
       gone k = ap (λ b. not b && list_any (λ (w : Awaited ℕ). w.stream == k) (awaited s.start (before ++ Shut ∷ []))) shut_shut
-
-      and-false : (b : Bool) → (b && false) ≡ false
-      and-false true = refl
-      and-false false = refl

@@ -1,5 +1,5 @@
 -- What is awaited: numbers rise, streams are those of batches, and a message ends at most one number.
-use Rattle.std.proofs.Common.{◌≡◌, ◌+◌, ◌<◌, ◌≤◌, ◌==◌, ◌&&◌, ◌||◌, ℕ, suc, Bool, true, false, not, cond, List, [], ◌∷◌, ◌++◌, length, Some, is_some, refl, sym, ◌∙◌, ap, subst, arith}
+use Rattle.std.proofs.Common.{◌≡◌, ◌+◌, ◌<◌, ◌≤◌, ◌==◌, ◌&&◌, ◌||◌, ℕ, suc, Bool, true, false, not, cond, List, [], ◌∷◌, ◌++◌, length, Some, is_some, refl, sym, ◌∙◌, ap, subst, arith, zero-add}
 use Rattle.std.specs.List.{filter, list_any, AllByRecursion}
 use Rattle.std.proofs.lemmas.Bool.Decides.{nat_tests}
 use Rattle.session_model.specs.declared.awaited.Awaited.{Awaited}
@@ -127,20 +127,14 @@ awaited_of last b (e ∷ es) =
 pub awaited_in-cons : (k : ℕ) (w : Awaited ℕ) (ws : List (Awaited ℕ)) → awaited_in k (w ∷ ws) ≡ cond (w.stream == k) 1 0 + awaited_in k ws
 awaited_in-cons k w ws = elim (w.stream == k) as (λ b. length (cond b (w ∷ filter (λ (v : Awaited ℕ). v.stream == k) ws) (filter (λ (v : Awaited ℕ). v.stream == k) ws)) ≡ cond b 1 0 + awaited_in k ws) [
   | true ↦ plus1 (awaited_in k ws)
-  | false ↦ plus0 (awaited_in k ws)
+  | false ↦ sym (zero-add (awaited_in k ws))
 ]
   where
     plus1 : (n : ℕ) → suc n ≡ 1 + n
     plus1 n = omega arith
 
-    plus0 : (n : ℕ) → n ≡ 0 + n
-    plus0 n = omega arith
-
 pub awaited_in-append : (k : ℕ) (ws vs : List (Awaited ℕ)) → awaited_in k (ws ++ vs) ≡ awaited_in k ws + awaited_in k vs
-awaited_in-append k [] vs = plus0 (awaited_in k vs)
-  where
-    plus0 : (n : ℕ) → n ≡ 0 + n
-    plus0 n = omega arith
+awaited_in-append k [] vs = sym (zero-add (awaited_in k vs))
 awaited_in-append k (w ∷ ws) vs =
     awaited_in-cons k w (ws ++ vs) ∙ ap (λ n. cond (w.stream == k) 1 0 + n) (awaited_in-append k ws vs)
     ∙ plus (cond (w.stream == k) 1 0) (awaited_in k ws) (awaited_in k vs) ∙ ap (λ n. n + awaited_in k vs) (sym (awaited_in-cons k w ws))
@@ -193,7 +187,7 @@ number_of w n p h = first (w.number == n) (w.port == p) refl h
 other_number : (a n : ℕ) → n < a → (a == n) ≡ false
 other_number a n h = grind (arith, nat_tests)
 
-turned : (a c : ℕ) → (a == c) ≡ (c == a)
+pub turned : (a c : ℕ) → (a == c) ≡ (c == a)
 turned a c = grind (arith, nat_tests)
 
 module _ {M : Type 0} (a : Arrival M) where
