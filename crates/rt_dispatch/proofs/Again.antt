@@ -46,6 +46,7 @@ route-request-again m is =
     ) is
 
 again : (m : RouteNetlinkMessage) → fits m ≡ true → ReadsBack m → reads (kind m) (text m) ≡ Ok m
+unfolding reads kind text fits
 again (NewLink m) fit back = wrapped NewLink _ m (link.messages-again m fit back.0 back.1)
 again (DelLink m) fit back = wrapped DelLink _ m (link.messages-again m fit back.0 back.1)
 again (GetLink m) fit back = wrapped GetLink _ m (link-request-again m (link.messages-again m fit back.0 back.1))

@@ -24,7 +24,7 @@ use Rattle.rt_dispatch.specs.declared.message.RouteNetlinkMessage.TheVariants.{N
 -- ---- writing
 
 -- The type of a message.
-abbrev pub kind : RouteNetlinkMessage → ℕ
+unfoldable pub kind : RouteNetlinkMessage → ℕ
 kind (NewLink m) = 16
 kind (DelLink m) = 17
 kind (GetLink m) = 18
@@ -57,7 +57,7 @@ kind (DelTrafficChain m) = 101
 kind (GetTrafficChain m) = 102
 
 -- The bytes of a message.
-abbrev pub text : RouteNetlinkMessage → List ℕ
+unfoldable pub text : RouteNetlinkMessage → List ℕ
 text (NewLink m) = Link.text m
 text (DelLink m) = Link.text m
 text (GetLink m) = Link.text m
@@ -90,7 +90,7 @@ text (DelTrafficChain m) = Tc.text m
 text (GetTrafficChain m) = Tc.text m
 
 -- Whether each attribute of a message fits, and the message a frame.
-abbrev pub fits : RouteNetlinkMessage → Bool
+unfoldable pub fits : RouteNetlinkMessage → Bool
 fits (NewLink m) = Link.fits m
 fits (DelLink m) = Link.fits m
 fits (GetLink m) = Link.fits m
@@ -146,7 +146,7 @@ route_request bytes =
     else Route.message_at bytes
 
 -- The message of a type and bytes, or the first cause from the left why they are none.
-abbrev pub reads : ℕ → List ℕ → Result RouteNetlinkMessage DecodeError
+unfoldable pub reads : ℕ → List ℕ → Result RouteNetlinkMessage DecodeError
 reads kind bytes =
     if kind == 16 then (Link.message_at bytes >>= λ m. Ok (NewLink m))
     else if kind == 17 then (Link.message_at bytes >>= λ m. Ok (DelLink m))

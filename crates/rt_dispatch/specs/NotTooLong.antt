@@ -11,6 +11,7 @@ short : (each : Bool) (n : ℕ) → (each && nat_le (16 + n) 4_294_967_295) ≡ 
 short each n fit = omega (arith, leb-true _ _ (and_true each (nat_le (16 + n) 4_294_967_295) fit).1)
 
 pub not-too-long : (m : RouteNetlinkMessage) → fits m ≡ true → length (text m) + 16 < 2 ^ 32
+unfolding text fits
 not-too-long (NewLink m) fit = short _ (length (text (NewLink m))) fit
 not-too-long (DelLink m) fit = short _ (length (text (DelLink m))) fit
 not-too-long (GetLink m) fit = short _ (length (text (GetLink m))) fit

@@ -10,6 +10,7 @@ use nl_core::{Emitable, NetlinkSerializable};
 
 impl RouteNetlinkMessage {
     /// Whether each length in the message fits its field, and the message a frame.
+    #[tactic(auto, unfolding(crate::specs::Dispatch::fits))]
     pub fn fits(&self) -> bool
         ensures { result ≡ fits self.now }
     {
@@ -48,6 +49,7 @@ impl RouteNetlinkMessage {
     }
 
     /// The count of bytes of the message.
+    #[tactic(auto, unfolding(crate::specs::Dispatch::text, crate::specs::Dispatch::fits))]
     pub fn buffer_len(&self) -> usize
         requires { fits self.now ≡ true }
         ensures { result ≡ length (text self.now) }
@@ -87,6 +89,7 @@ impl RouteNetlinkMessage {
     }
 
     /// Writes the message over the front of a buffer; what stands past it stays.
+    #[tactic(auto, unfolding(crate::specs::Dispatch::text, crate::specs::Dispatch::fits))]
     pub fn emit(&self, buf: &mut [u8])
         requires fits { fits self.now ≡ true }
         requires room { length (text self.now) ≤ length buf.old }
