@@ -112,8 +112,9 @@ fn header_in_front(bytes: &[u8]) -> Option<NetlinkHeader>
     Some(header)
 }
 
-// The message of the frame at the front, if it can be read.
-fn message_in_front<T: NetlinkDeserializable>(
+/// The message of the frame at the front; bytes past it are not looked at. None where no frame begins there, or it can't be
+/// read.
+pub fn read_frame<T: NetlinkDeserializable>(
     alloc: Global,
     bytes: &[u8],
 ) -> Result<Option<NetlinkMessage<T>>, NoMemory>
@@ -141,7 +142,7 @@ fn first_readable<T: NetlinkDeserializable>(
         match header_in_front(rest) {
             None => return Ok((None, bytes.len())),
             Some(header) => {
-                let found = message_in_front(alloc, rest)?;
+                let found = read_frame(alloc, rest)?;
                 at += header.length as usize;
                 match found {
                     Some(message) => return Ok((Some(message), at)),
@@ -177,7 +178,7 @@ impl NetlinkMessageCodec for NetlinkCodec {
             src.clear();
             return Ok(Decoded::Rest { bytes });
         };
-        let message = message_in_front(alloc, src.as_slice())?;
+        let message = read_frame(alloc, src.as_slice())?;
         src.advance(header.length as usize);
         match message {
             Some(message) => Ok(Decoded::Message(message)),

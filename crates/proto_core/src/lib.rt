@@ -9,11 +9,11 @@ mod pending;
 mod protocol;
 mod request;
 
-pub use codec::{CodecError, Decoded, NetlinkCodec, NetlinkMessageCodec};
+pub use codec::{CodecError, Decoded, NetlinkCodec, NetlinkMessageCodec, read_frame};
 pub use laws::codec_follows_cut;
 pub use messages::{Handled, Incoming, Outgoing, Place, Response};
 pub use protocol::Protocol;
-pub use request::{ExpectResponse, Request, RequestRefusal};
+pub use request::{ExpectResponse, Request, RequestRefusal, wants_reply};
 pub use session_model::SocketAddr;
 
 #[cfg(test)]

@@ -166,6 +166,13 @@ impl<T, M: Copy> Protocol<T, M> {
         self.awaited.find(number, port).is_some()
     }
 
+    /// How many messages arrived.
+    pub fn arrivals(&self) -> u64
+        ensures { result ≡ self.now.session.arrived }
+    {
+        self.arrived
+    }
+
     /// How many numbers are awaited.
     pub fn pending_len(&self) -> usize
         ensures len { result ≡ length self.now.session.awaited }

@@ -3,6 +3,7 @@ ghost use Rattle.std.specs.Prelude.{◌≡◌, ◌+◌, ◌<◌, ◌^◌, [], �
 ghost use Rattle.std.specs.List.{list_all};
 ghost use Rattle.nl_core.specs.Frames.{message_fits};
 ghost use Rattle.session_model.specs.Awaited.{numbered};
+ghost use Rattle.session_model.specs.Flags.{wants_reply};
 ghost use Rattle.proto_core.specs.Noted.{noted, is_expected};
 ghost use Rattle.proto_core.specs.Numbers.{AreBelow};
 ghost use Rattle.proto_core.specs.Refused.{IsCause};
@@ -126,17 +127,23 @@ pub(crate) fn under_numbers<T: NetlinkSerializable>(
     Items::from_vec(messages)
 }
 
+/// Whether a message's flags ask for a reply: one of `NLM_F_REQUEST`, `NLM_F_ACK` and `NLM_F_ECHO` of
+/// include/uapi/linux/netlink.h is set.
+pub fn wants_reply(header: &NetlinkHeader) -> bool
+    ensures { result ≡ wants_reply header.now }
+{
+    header.flags & NLM_F_REQUEST != 0
+        || header.flags & NLM_F_ACK != 0
+        || header.flags & NLM_F_ECHO != 0
+}
+
 impl ExpectResponse {
     // Whether the message at a place is awaited.
     fn awaits(&self, i: usize, header: &NetlinkHeader) -> bool
         ensures { result ≡ is_expected self.now i header.now }
     {
         match self {
-            ExpectResponse::FromFlags => {
-                header.flags & NLM_F_REQUEST != 0
-                    || header.flags & NLM_F_ACK != 0
-                    || header.flags & NLM_F_ECHO != 0
-            }
+            ExpectResponse::FromFlags => wants_reply(header),
             ExpectResponse::Explicit(marks) => i < marks.len() && marks.as_slice()[i],
         }
     }
