@@ -2,20 +2,16 @@
 use Rattle.std.proofs.Common.{◌≡◌, ◌+◌, ◌*◌, ◌≤◌, List, [], ◌∷◌, ◌++◌, ℕ, length, map, codes, flat_map, true, ◌&&◌, Result, Ok, Err, ap, refl, sym, ◌∙◌, subst, arith}
 use Rattle.std.specs.Fmt.{decimal}
 use Rattle.std.proofs.lemmas.List.{length-append}
-use Rattle.std.specs.List.{AllByRecursion, join_with_byte, list_all}
+use Rattle.std.specs.List.{AllByRecursion, join_with_byte}
 use Rattle.session_model.specs.declared.address.SocketAddr.{SocketAddr}
 use Rattle.session_model.specs.declared.transcript.BatchFrame.{BatchFrame}
 use Rattle.session_model.specs.declared.transcript.Record.{Record}
 use Rattle.session_model.specs.declared.transcript.Record.TheVariants.{Recv, Overrun, Close, Batch}
-use Rattle.nl_core.proofs.Fits.{whole_fits}
-use Rattle.nl_core.specs.Frames.{frame_at}
-use Rattle.nl_core.specs.declared.error.DecodeError.{DecodeError}
-use Rattle.nl_core.specs.declared.message.NetlinkMessage.{NetlinkMessage}
-use Rattle.session_model.specs.Causes.{IsNoRecord, all_fit, read_fits}
+use Rattle.session_model.specs.Causes.{IsNoRecord}
 use Rattle.session_model.specs.Transcript.{AreBytes, IsWholeFrame, frame_word, record_line, record_words}
 use Rattle.session_model.specs.Lines.{hex_byte, hex_word}
 use Rattle.transcript_lines.specs.Line.{IsSpelled, IsNoLine, SpellingIsInjective}
-use Rattle.mirror.specs.Format.{IsEntry, IsFrameRead, Message, format}
+use Rattle.mirror.specs.Format.{IsEntry, IsFrameRead, format}
 use Rattle.mirror.specs.Steps.{weight}
 
 -- A record is one that a line can spell.
@@ -90,19 +86,3 @@ line_long (Batch to frames) =
     let whole : length (record_line (Batch to frames)) ≡ length (join_with_byte 32 (record_words (Batch to frames))) + 1 = length-append (join_with_byte 32 (record_words (Batch to frames))) (10 ∷ []) in
     let name : 5 ≤ length (join_with_byte 32 (record_words (Batch to frames))) = head_shorter (codes "batch") (decimal to.port) (decimal to.groups ∷ map frame_word frames) in
     (omega (arith, whole, name), omega (arith, whole))
-
--- ---- what fits
-
-pub frames_fit : (r : Record) → IsEntry r → all_fit format r ≡ true
-frames_fit (Recv source bytes) h = refl
-frames_fit Overrun h = refl
-frames_fit Close h = refl
-frames_fit (Batch to frames) h = each frames h.1
-  where
-    fits : (bytes : List ℕ) → IsWholeFrame format bytes → (r : Result (NetlinkMessage Message) DecodeError) → frame_at format.reads bytes ≡ r → read_fits format r ≡ true
-    fits bytes w (Ok m) e = whole_fits bytes m w.frame w.each e
-    fits bytes w (Err e) is = refl
-
-    each : (fs : List BatchFrame) → AllByRecursion (λ (f : BatchFrame). IsWholeFrame format f.bytes) fs → list_all (λ (f : BatchFrame). read_fits format (frame_at format.reads f.bytes)) fs ≡ true
-    each [] k = refl
-    each (f ∷ fs) k = ap (λ b. b && list_all (λ (g : BatchFrame). read_fits format (frame_at format.reads g.bytes)) fs) (fits f.bytes k.0 (frame_at format.reads f.bytes) refl) ∙ each fs k.1

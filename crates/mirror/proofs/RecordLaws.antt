@@ -1,5 +1,6 @@
 -- A whole record: how it begins and ends, and why it isn't taken.
-use Rattle.std.proofs.Common.{◌≡◌, ◌+◌, ◌<◌, ◌≤◌, ◌&&◌, ◌==◌, ◌||◌, ◌^◌, ℕ, zero, suc, Bool, true, false, not, cond, nat_lt, List, [], ◌∷◌, ◌++◌, length, get_or, Option, Some, None, is_some, Result, Ok, Err, IfErr, flat_map, refl, sym, ◌∙◌, ap, subst, append_assoc, arith}
+use Rattle.std.proofs.Common.{◌≡◌, ◌+◌, ◌<◌, ◌≤◌, ◌&&◌, ◌==◌, ◌||◌, ◌^◌, ℕ, zero, suc, Bool, true, false, not, cond, nat_lt, List, [], ◌∷◌, ◌++◌, length, get_or, Option, Some, None, is_some, Result, Ok, Err, IfErr, flat_map, refl, sym, ◌∙◌, ap, subst, append_assoc, arith, add-zero}
+use Rattle.std.proofs.Math.Bool.{or-false, and-false}
 use Rattle.std.specs.Prelude.{IsOk, OnErr}
 use Rattle.std.specs.List.{AllByRecursion, list_all, list_any}
 use Rattle.std.specs.List.Sorted.{IsStrictlySortedBy}
@@ -51,16 +52,9 @@ use Rattle.mirror.specs.Format.{IsEntry, Message, format}
 use Rattle.mirror.specs.Faults.{IsStepping, IsWriting}
 use Rattle.mirror.specs.Io.{GainedSome}
 use Rattle.mirror.specs.Refusals.{fault_of}
-use Rattle.mirror.specs.Steps.{Amid, Brought, Fails, Keeps, Sends, Tracks, WhyNot, closes, events, fault_at, open_at, text_behind}
+use Rattle.mirror.specs.Steps.{Amid, Brought, Fails, Keeps, Sends, Tracks, WhyNot, arrived, closes, events, fault_at, open_at, text_behind}
 use Rattle.mirror.proofs.Ends.{gained_none}
 use Rattle.mirror.proofs.StepLaws.{dropped-append}
-
-plus0 : (n : ℕ) → n + 0 ≡ n
-plus0 n = omega arith
-
-or-false : (b : Bool) → (b || false) ≡ b
-or-false true = refl
-or-false false = refl
 
 pub events_more : (rs : List Record) (r : Record) → events (rs ++ r ∷ []) ≡ events rs ++ record_events format r
 events_more rs r = flat_map-append (record_events format) rs (r ∷ []) ∙ ap (λ es. events rs ++ es) (append-nil (record_events format r))
@@ -152,10 +146,6 @@ module _ (s : Settings) (rs : List Record) (to : SocketAddr) (frames : List Batc
       some_unfit p [] i low h = absurd (omega (arith, low))
       some_unfit p (x ∷ xs) zero low h = ap (λ b. b && list_all p xs) (h x)
       some_unfit p (x ∷ xs) (suc i) low h = ap (λ b. p x && b) (some_unfit p xs i (omega (arith, low)) h) ∙ and-false (p x)
-        where
-          and-false : (b : Bool) → (b && false) ≡ false
-          and-false true = refl
-          and-false false = refl
 
   -- A batch that is sent.
   pub batch_sends : (new : Runner) (answer : Answer) (s1 : Session Message ℕ) → asks ≡ record { metadata = runner.streams + 1; messages = messages_in format frames; destination = to; expect_response = Explicit (marks_in format frames) }
@@ -236,7 +226,7 @@ batch_ends s rs to frames old new answer h sends settings shut streams dropped =
   counts = sends.counts;
   closed = shut ∙ h.closed ∙ sym (list_any-append shuts (events rs) (record_events format (Batch to frames)) ∙ or-false (is_shut (events rs)));
   streams = streams ∙ ap (λ n. n + 1) h.streams ∙ sym (batch_count-append 0 (events rs) (record_events format (Batch to frames)));
-  dropped = dropped ∙ h.dropped ∙ sym (dropped-append (events rs) (record_events format (Batch to frames)) ∙ plus0 (dropped_count (events rs)));
+  dropped = dropped ∙ h.dropped ∙ sym (dropped-append (events rs) (record_events format (Batch to frames)) ∙ add-zero (dropped_count (events rs)));
   text = sends.text;
   free = sends.free;
 }
@@ -252,7 +242,7 @@ close_ends s rs r old new answer t is h closed low settings session empty stream
   counts = shut_counts format s (events rs) (open_at new) (λ k. ap (lookup (is_at (nat_cmp k))) empty);
   closed = shut ∙ sym (shut_shut format s (events rs));
   streams = streams ∙ h.streams ∙ sym (shut_streams format s (events rs));
-  dropped = dropped ∙ h.dropped ∙ sym (dropped-append (events rs) (Shut ∷ []) ∙ plus0 (dropped_count (events rs)));
+  dropped = dropped ∙ h.dropped ∙ sym (dropped-append (events rs) (Shut ∷ []) ∙ add-zero (dropped_count (events rs)));
   text = ap (λ u. u ++ (answer.replies.items ++ flat_map closed_line answer.closing.keys)) (lines_are ∙ ap (λ u. u ++ flat_map closed_line (keys old.open_streams)) begun_empty)
       ∙ ap (λ u. flat_map closed_line (keys old.open_streams) ++ (u ++ flat_map closed_line answer.closing.keys)) replies
       ∙ ap (λ ks. flat_map closed_line (keys old.open_streams) ++ flat_map closed_line ks) none
@@ -263,8 +253,8 @@ close_ends s rs r old new answer t is h closed low settings session empty stream
 
 -- One record more is taken.
 pub brought_tracks : (s : Settings) (rs : List Record) (r : Record) (old new : Runner) (answer : Answer) → Tracks s rs old → IsEntry r → Brought s rs r new answer → new.lines ≡ old.lines
-    → new.session.session.arrived ≡ new.messages → Tracks s (rs ++ r ∷ []) (record new { lines = new.lines + 1 })
-brought_tracks s rs r old new answer h entry b lines arrived =
+    → Tracks s (rs ++ r ∷ []) (record new { lines = new.lines + 1 })
+brought_tracks s rs r old new answer h entry b lines =
     let more = events_more rs r in record {
       settings = b.settings;
       session = b.session ∙ ap (session_after s.start) (sym more);
@@ -272,20 +262,19 @@ brought_tracks s rs r old new answer h entry b lines arrived =
       closed = b.closed ∙ ap is_shut (sym more);
       streams = b.streams ∙ ap (batch_count 0) (sym more);
       lines = ap (λ n. n + 1) (lines ∙ h.lines) ∙ sym (length-append rs (r ∷ []));
-      messages = sym arrived ∙ ap (λ q. q.arrived) b.session ∙ ap (λ es. length (arrivals es)) (sym more);
       dropped = b.dropped ∙ ap dropped_count (sym more);
       taken = taken_more format s IsEntry [] rs r h.taken entry b.free;
     }
 
 -- ---- the report
 
-pub reported : (s : Settings) (rs : List Record) (runner : Runner) (still_open : ℕ) → Tracks s rs runner → IsStrictlySortedBy nat_cmp (keys runner.open_streams) → still_open ≡ length runner.open_streams.entries
-    → record { lines = runner.lines; messages = runner.messages; dropped = runner.dropped; still_open = still_open; in_step = false } ≡ report_of format s rs
-reported s rs runner still_open h ordered is =
+pub reported : (s : Settings) (rs : List Record) (runner : Runner) (messages still_open : ℕ) → Tracks s rs runner → messages ≡ arrived runner → IsStrictlySortedBy nat_cmp (keys runner.open_streams) → still_open ≡ length runner.open_streams.entries
+    → record { lines = runner.lines; messages = messages; dropped = runner.dropped; still_open = still_open; in_step = false } ≡ report_of format s rs
+reported s rs runner messages still_open h count_is ordered is =
     let ks : keys runner.open_streams ≡ open_streams s.start (events rs) = open_is s.start (events rs) (open_at runner) (keys runner.open_streams) h.counts (rises (keys runner.open_streams) ordered) (has_entry runner.open_streams.entries) in
     let count : still_open ≡ length (open_streams s.start (events rs)) = is ∙ sym (length-map runner.open_streams.entries (λ (e : ℕ × ℕ). e.0)) ∙ ap length ks in
-    ap (λ n. record { lines = n; messages = runner.messages; dropped = runner.dropped; still_open = still_open; in_step = false }) h.lines
-    ∙ ap (λ n. record { lines = length rs; messages = n; dropped = runner.dropped; still_open = still_open; in_step = false }) h.messages
+    ap (λ n. record { lines = n; messages = messages; dropped = runner.dropped; still_open = still_open; in_step = false }) h.lines
+    ∙ ap (λ n. record { lines = length rs; messages = n; dropped = runner.dropped; still_open = still_open; in_step = false }) (count_is ∙ ap (λ q. q.arrived) h.session)
     ∙ ap (λ n. record { lines = length rs; messages = length (arrivals (events rs)); dropped = n; still_open = still_open; in_step = false }) h.dropped
     ∙ ap (λ n. record { lines = length rs; messages = length (arrivals (events rs)); dropped = dropped_count (events rs); still_open = n; in_step = false }) count
 

@@ -1,5 +1,5 @@
 -- What one more record does to a runner, and why it isn't taken.
-use Rattle.std.proofs.Common.{◌≡◌, ◌+◌, ◌<◌, ◌⊎◌, inl, inr, ℕ, suc, Bool, true, false, cond, List, [], ◌∷◌, ◌++◌, length, Option, Some, None, Result, Ok, Err, refl, sym, ◌∙◌, ap, subst, append_assoc, arith}
+use Rattle.std.proofs.Common.{◌≡◌, ◌+◌, ◌<◌, ◌⊎◌, inl, inr, ℕ, suc, Bool, true, false, cond, List, [], ◌∷◌, ◌++◌, length, Option, Some, None, Result, Ok, Err, refl, sym, ◌∙◌, ap, subst, append_assoc, arith, add-zero, zero-add}
 use Rattle.nl_core.specs.Frames.{frame_at, header_at}
 use Rattle.nl_core.specs.declared.error.DecodeError.{DecodeError}
 use Rattle.nl_core.specs.declared.message.NetlinkMessage.{NetlinkMessage}
@@ -43,20 +43,14 @@ arrived_last a s = one (awaiting a s)
     one (Some w) = refl
 
 pub dropped-append : (es fs : List (Event Message)) → dropped_count (es ++ fs) ≡ dropped_count es + dropped_count fs
-dropped-append [] fs = sym (zero-plus (dropped_count fs))
-  where
-    zero-plus : (n : ℕ) → 0 + n ≡ n
-    zero-plus n = omega arith
+dropped-append [] fs = sym (zero-add (dropped_count fs))
 dropped-append (e ∷ es) fs = ap (λ n. drops e + n) (dropped-append es fs) ∙ assoc (drops e) (dropped_count es) (dropped_count fs)
   where
     assoc : (a b c : ℕ) → a + (b + c) ≡ (a + b) + c
     assoc a b c = omega arith
 
 dropped_more : (before es : List (Event Message)) (e : Event Message) → dropped_count (before ++ (es ++ e ∷ [])) ≡ dropped_count (before ++ es) + drops e
-dropped_more before es e = ap dropped_count (sym (append_assoc before es (e ∷ []))) ∙ dropped-append (before ++ es) (e ∷ []) ∙ ap (λ n. dropped_count (before ++ es) + n) (plus0 (drops e))
-  where
-    plus0 : (n : ℕ) → n + 0 ≡ n
-    plus0 n = omega arith
+dropped_more before es e = ap dropped_count (sym (append_assoc before es (e ∷ []))) ∙ dropped-append (before ++ es) (e ∷ []) ∙ ap (λ n. dropped_count (before ++ es) + n) (add-zero (drops e))
 
 -- an event that brings a message drops nothing
 brings_no_drop : (e : Event Message) (a : Arrival Message) → Brings e (a ∷ []) → drops e ≡ 0
@@ -78,11 +72,8 @@ arrived_amid s rs es e a old new before now s1 s2 t brings is1 first second text
   stage = subst (λ u. Stage format s (events rs) (es ++ e ∷ []) new.session.session (open_at new) (closes now) u now.replies.items) (sym text)
       (received format s (events rs) es e a brings old.session.session s1 s2 new.session.session (open_at old) (open_at new) (closes before) (closes now) before.text.items t before.replies.items now.replies.items
       h.stage is1 first (subst (λ z. TakesResponse format z s2 new.session.session before.replies.items now.replies.items (open_at old) (open_at new) (closes before) (closes now)) h.settings second));
-  dropped = dropped ∙ h.dropped ∙ sym (plus0 (dropped_count (events rs ++ es))) ∙ ap (λ n. dropped_count (events rs ++ es) + n) (sym (brings_no_drop e a brings)) ∙ sym (dropped_more (events rs) es e);
+  dropped = dropped ∙ h.dropped ∙ sym (add-zero (dropped_count (events rs ++ es))) ∙ ap (λ n. dropped_count (events rs ++ es) + n) (sym (brings_no_drop e a brings)) ∙ sym (dropped_more (events rs) es e);
 }
-  where
-    plus0 : (n : ℕ) → n + 0 ≡ n
-    plus0 n = omega arith
 
 -- A frame that can't be read, or a rest, is dropped.
 pub dropped_amid : (s : Settings) (rs : List Record) (es : List (Event Message)) (e : Event Message) (old : Runner) (now : Answer) → Brings e [] → drops e ≡ 1 → Amid s rs es old now

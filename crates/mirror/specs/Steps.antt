@@ -10,7 +10,7 @@ use Rattle.session_model.specs.declared.outcome.RunFault.TheVariants as run
 use Rattle.session_model.specs.declared.transcript.BatchFrame.{BatchFrame}
 use Rattle.session_model.specs.declared.transcript.Record.{Record}
 use Rattle.session_model.specs.declared.transcript.Record.TheVariants.{Recv, Overrun, Close, Batch}
-use Rattle.session_model.specs.Events.{Event, arrivals, datagram_events, record_events, events_of}
+use Rattle.session_model.specs.Events.{Event, datagram_events, record_events, events_of}
 use Rattle.session_model.specs.Awaited.{batch_count}
 use Rattle.session_model.specs.Streams.{is_shut}
 use Rattle.session_model.specs.Reported.{dropped_count}
@@ -47,6 +47,10 @@ open_at runner stream = get nat_cmp runner.open_streams stream
 abbrev pub closes : Answer → ℕ → Bool
 closes answer stream = contains nat_cmp answer.closing stream
 
+-- How many messages arrived.
+abbrev pub arrived : Runner → ℕ
+arrived runner = runner.session.session.arrived
+
 -- A runner and the answer of the record at hand, amid its events.
 pub record Amid (s : Settings) (rs : List Record) (es : List (Event Message)) (runner : Runner) (answer : Answer) : Type 0 where
   pub settings : runner.settings ≡ s
@@ -78,7 +82,6 @@ pub record Tracks (s : Settings) (rs : List Record) (runner : Runner) : Type 0 w
   pub closed : runner.closed ≡ is_shut (events rs)
   pub streams : runner.streams ≡ batch_count 0 (events rs)
   pub lines : runner.lines ≡ length rs
-  pub messages : runner.messages ≡ length (arrivals (events rs))
   pub dropped : runner.dropped ≡ dropped_count (events rs)
   pub taken : AreAllTaken s rs
 
@@ -93,11 +96,10 @@ pub record Brought (s : Settings) (rs : List Record) (r : Record) (runner : Runn
   pub text : answered answer ≡ text_behind s rs r
   pub free : refusal format s (events rs) r ≡ None
 
--- No step of a runner has failed: its counts belong together, and its numbers are in their range.
+-- No step of a runner has failed: its numbers are in their range, and each stream is one of its records.
 pub record Counted (runner : Runner) : Type 0 where
   pub numbers : runner.session.session.last < 2 ^ 32
   pub streams : runner.streams ≤ runner.lines
-  pub arrived : runner.session.session.arrived ≡ runner.messages
 
 -- What stays as it was while messages are taken in.
 pub record Keeps (old new : Runner) : Type 0 where
@@ -117,7 +119,7 @@ weight (Batch to frames) = 0
 -- The counts of a runner after one record more.
 pub record Grows (r : Record) (old new : Runner) : Type 0 where
   pub lines : new.lines ≡ old.lines + 1
-  pub messages : new.messages ≤ old.messages + weight r
+  pub messages : arrived new ≤ arrived old + weight r
   pub dropped : new.dropped ≤ old.dropped + weight r
 
 -- Why a record isn't taken behind others, want of memory apart.

@@ -1,6 +1,6 @@
 // Laws of the definitions that the contract of `run` cites, each the contract of a function that does nothing.
-ghost use Rattle.std.specs.Prelude.{◌≡◌, List, true, ℕ};
-ghost use Rattle.session_model.specs.Causes.{HasCause, IsValid, all_fit};
+ghost use Rattle.std.specs.Prelude.{◌≡◌, List, ℕ};
+ghost use Rattle.session_model.specs.Causes.{HasCause, IsValid};
 ghost use Rattle.session_model.specs.declared.outcome.RunFault.{RunFault};
 ghost use Rattle.session_model.specs.declared.settings.Settings.{Settings};
 ghost use Rattle.session_model.specs.declared.transcript.Record.{Record};
@@ -19,9 +19,4 @@ pub fn one_outcome()
 /// Words spell at most one settings.
 pub fn one_settings()
     ensures { (words : List (List ℕ)) (s t : Settings) → SpellSettings words s → SpellSettings words t → s ≡ t }
-{}
-
-/// Each frame of a record fits, whose payload is kept as it stands, so Unfit never comes.
-pub fn opaque_frames_fit()
-    ensures { (r : Record) → IsEntry r → all_fit format r ≡ true }
 {}

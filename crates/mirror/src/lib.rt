@@ -22,7 +22,7 @@ mod words;
 
 pub use command::cli;
 pub use io::{Read, Sink, Source, Wrote};
-pub use laws::{one_outcome, one_settings, opaque_frames_fit};
+pub use laws::{one_outcome, one_settings};
 pub use memory::{MemorySink, MemorySource};
 pub use message::Message;
 pub use program::run;

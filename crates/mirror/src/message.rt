@@ -1,5 +1,5 @@
 // The type of the inner messages of a session. Its format is named in specs/Format.
-use nl_core::RawMessage;
+use rt_dispatch::RouteNetlinkMessage;
 
-/// What a frame's payload is read as: its bytes as they stand.
-pub type Message = RawMessage;
+/// What a frame's payload is read as: a message of the routing family, by its type.
+pub type Message = RouteNetlinkMessage;

@@ -5,21 +5,24 @@ ghost use Rattle.session_model.specs.Transcript.{record_line};
 ghost use Rattle.session_model.specs.declared.transcript.BatchFrame.{BatchFrame};
 ghost use Rattle.session_model.specs.Causes.{IsNoRecord};
 ghost use Rattle.transcript_lines.specs.Line.{IsSpelled};
-ghost use Rattle.mirror.specs.Format.{IsEntry, IsFrameRead, format};
+ghost use Rattle.mirror.specs.Format.{IsEntry, IsFrameRead, IsReadFrame, format};
 
 use crate::message::Message;
-use nl_core::{DecodeError, NetlinkMessage, NoMemory};
+use nl_core::{NetlinkDeserializable, NoMemory};
+use proto_core::read_frame;
 use session_model::{BatchFrame, Record};
 use std::alloc::Global;
 
 // Whether bytes are one frame that can be read.
-fn is_whole_frame(alloc: Global, bytes: &[u8]) -> Result<bool, NoMemory>
-    ensures { IfOk result (λ b. IsTrue b ↔ IsFrameRead bytes.now) }
+fn is_whole_frame<T: NetlinkDeserializable + Drop>(
+    alloc: Global,
+    bytes: &[u8],
+) -> Result<bool, NoMemory>
+    ensures { IfOk result (λ b. IsTrue b ↔ IsReadFrame T.reads bytes.now) }
 {
-    match NetlinkMessage::<Message>::deserialize(alloc, bytes) {
-        Ok(message) => Ok(message.header.length as usize == bytes.len()),
-        Err(DecodeError::NoMemory) => Err(NoMemory),
-        Err(_) => Ok(false),
+    match read_frame::<T>(alloc, bytes)? {
+        Some(message) => Ok(message.header.length as usize == bytes.len()),
+        None => Ok(false),
     }
 }
 
@@ -28,7 +31,7 @@ fn are_whole_frames(alloc: Global, frames: &[BatchFrame]) -> Result<bool, NoMemo
     ensures { IfOk result (λ b. IsTrue b ↔ AllByRecursion (λ (frame : BatchFrame). IsFrameRead frame.bytes) frames.now) }
 {
     for frame in frames {
-        if !is_whole_frame(alloc, frame.bytes.as_slice())? {
+        if !is_whole_frame::<Message>(alloc, frame.bytes.as_slice())? {
             return Ok(false);
         }
     }

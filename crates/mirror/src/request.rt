@@ -1,18 +1,12 @@
 // The request of a batch, and why it isn't taken.
 ghost use Rattle.std.specs.Prelude.{◌≡◌, IfOk};
-ghost use Rattle.nl_core.specs.Frames.{frame_at};
 ghost use Rattle.session_model.specs.Events.{is_awaited_by};
-ghost use Rattle.session_model.specs.Flags.{wants_reply};
-ghost use Rattle.proto_core.specs.Walk.{if_read};
 ghost use Rattle.session_steps.specs.Requests.{marked, marks_in, messages_in};
 ghost use Rattle.mirror.specs.Format.{format};
 
 use crate::message::Message;
-use nl_core::{
-    DecodeError, Items, NLM_F_ACK, NLM_F_ECHO, NLM_F_REQUEST, NetlinkHeader, NetlinkMessage,
-    NoMemory,
-};
-use proto_core::RequestRefusal;
+use nl_core::{Items, NetlinkHeader, NetlinkMessage, NoMemory};
+use proto_core::{RequestRefusal, read_frame, wants_reply};
 use session_model::{BatchFrame, Mark, RunFault};
 use std::alloc::Global;
 
@@ -65,15 +59,6 @@ impl StepFault {
     }
 }
 
-// Whether a header's flags ask for an answer.
-fn wants_reply(header: &NetlinkHeader) -> bool
-    ensures { result ≡ wants_reply header.now }
-{
-    header.flags & NLM_F_REQUEST != 0
-        || header.flags & NLM_F_ACK != 0
-        || header.flags & NLM_F_ECHO != 0
-}
-
 // Whether a frame awaits a reply.
 fn is_awaited(mark: Mark, header: &NetlinkHeader) -> bool
     ensures { result ≡ is_awaited_by mark header.now }
@@ -82,17 +67,6 @@ fn is_awaited(mark: Mark, header: &NetlinkHeader) -> bool
         Mark::ByFlags => wants_reply(header),
         Mark::Expected => true,
         Mark::NotExpected => false,
-    }
-}
-
-// The message of a frame, if it can be read.
-fn read_frame(alloc: Global, bytes: &[u8]) -> Result<Option<NetlinkMessage<Message>>, NoMemory>
-    ensures { IfOk result (λ o. o ≡ if_read (frame_at format.reads bytes.now)) }
-{
-    match NetlinkMessage::<Message>::deserialize(alloc, bytes) {
-        Ok(message) => Ok(Some(message)),
-        Err(DecodeError::NoMemory) => Err(NoMemory),
-        Err(_) => Ok(None),
     }
 }
 

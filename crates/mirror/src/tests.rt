@@ -2,6 +2,7 @@
 // asks for an acknowledgement), an RTM_NEWROUTE reply, and the kernel's NLMSG_DONE and NLMSG_ERROR answers.
 ghost use Rattle.std.specs.Prelude.{◌≤◌};
 
+mod messages;
 mod sessions;
 
 use crate::{

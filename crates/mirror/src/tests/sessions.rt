@@ -7,50 +7,15 @@ use crate::{
     read_line, run,
 };
 use nl_core::{Items, Octets};
+use std::alloc::Global;
+use std::process::Abort;
 use std::test::Fail;
 
-// Which frames leave, and which streams close at once.
-#[test]
-fn batches_are_sent(rt: HostRuntime) -> Result<(), Fail> {
-    let alloc = rt.alloc();
-    let rows = [
-        (
-            &["run"].as_slice(),
-            "batch 0 0\nbatch 0 0 n:1c0000001a0001030000000000000000000000000000000000000000\n",
-            0,
-            "closed 1\nsent 0 0 1c0000001a0001030100000000000000000000000000000000000000\nclosed 2\nok 2 0 0 0 no\n",
-        ),
-        (
-            &["run"].as_slice(),
-            "batch 0 0 f:1c0000001a0001030000000000000000000000000000000000000000\n",
-            0,
-            "sent 0 0 1c0000001a0001030100000000000000000000000000000000000000\nok 1 0 0 1 no\n",
-        ),
-        (
-            &["run"].as_slice(),
-            "batch 0 0 e:1c0000001a0001030000000000000000000000000000000000000000 e:1c0000001a0001030000000000000000000000000000000000000000\nrecv 0 0 1400000003000200010000000000000000000000\n",
-            0,
-            "sent 0 0 1c0000001a00010301000000000000000000000000000000000000001c0000001a0001030200000000000000000000000000000000000000\nok 2 1 0 1 no\n",
-        ),
-        (
-            &["run", "start=4294967294"].as_slice(),
-            "batch 0 0 n:1c0000001a0001030000000000000000000000000000000000000000\n",
-            0,
-            "sent 0 0 1c0000001a000103ffffffff00000000000000000000000000000000\nclosed 1\nok 1 0 0 0 no\n",
-        ),
-        (
-            &["run", "start=4294967294"].as_slice(),
-            "batch 0 0 n:1c0000001a0001030000000000000000000000000000000000000000 n:1c0000001a0001030000000000000000000000000000000000000000\n",
-            4,
-            "",
-        ),
-        (
-            &["run", "start=4294967295"].as_slice(),
-            "batch 0 0\n",
-            0,
-            "closed 1\nok 1 0 0 0 no\n",
-        ),
-    ];
+// The words, a transcript, the status that it ends with, and its text.
+pub type Row = (&'static [&'static str], &'static str, u8, &'static str);
+
+/// Each transcript has its status and its text, in whatever pieces it is read and written.
+pub fn check_rows(rt: &impl Abort, alloc: Global, rows: &[Row]) -> Result<(), Fail> {
     for (words, input, status, text) in rows {
         let words = strings(alloc, words)?;
         for piece in [1, 100_000] {
@@ -58,184 +23,177 @@ fn batches_are_sent(rt: HostRuntime) -> Result<(), Fail> {
             let mut out = sink(alloc, piece, &[])?;
             assert_eq!(rt;
                 cli(alloc, words.as_slice(), &mut input, &mut out),
-                status,
+                *status,
                 "at {text}"
             );
             assert_eq!(rt; out.bytes(), text.as_bytes(), "at {text}");
         }
     }
     Ok(())
+}
+
+// Which frames leave, and which streams close at once.
+const BATCHES: [Row; 6] = [
+    (
+        &["run"],
+        "batch 0 0\nbatch 0 0 n:1c0000001a0001030000000000000000000000000000000000000000\n",
+        0,
+        "closed 1\nsent 0 0 1c0000001a0001030100000000000000000000000000000000000000\nclosed 2\nok 2 0 0 0 no\n",
+    ),
+    (
+        &["run"],
+        "batch 0 0 f:1c0000001a0001030000000000000000000000000000000000000000\n",
+        0,
+        "sent 0 0 1c0000001a0001030100000000000000000000000000000000000000\nok 1 0 0 1 no\n",
+    ),
+    (
+        &["run"],
+        "batch 0 0 e:1c0000001a0001030000000000000000000000000000000000000000 e:1c0000001a0001030000000000000000000000000000000000000000\nrecv 0 0 1400000003000200010000000000000000000000\n",
+        0,
+        "sent 0 0 1c0000001a00010301000000000000000000000000000000000000001c0000001a0001030200000000000000000000000000000000000000\nok 2 1 0 1 no\n",
+    ),
+    (
+        &["run", "start=4294967294"],
+        "batch 0 0 n:1c0000001a0001030000000000000000000000000000000000000000\n",
+        0,
+        "sent 0 0 1c0000001a000103ffffffff00000000000000000000000000000000\nclosed 1\nok 1 0 0 0 no\n",
+    ),
+    (
+        &["run", "start=4294967294"],
+        "batch 0 0 n:1c0000001a0001030000000000000000000000000000000000000000 n:1c0000001a0001030000000000000000000000000000000000000000\n",
+        4,
+        "",
+    ),
+    (
+        &["run", "start=4294967295"],
+        "batch 0 0\n",
+        0,
+        "closed 1\nok 1 0 0 0 no\n",
+    ),
+];
+
+#[test]
+fn batches_are_sent(rt: HostRuntime) -> Result<(), Fail> {
+    check_rows(&rt, rt.alloc(), &BATCHES)
 }
 
 // Which messages answer a request, and which don't.
+const REPLIES: [Row; 5] = [
+    (
+        &["run"],
+        "batch 0 0 e:1c0000001a0001030000000000000000000000000000000000000000 n:1c0000001a0001030000000000000000000000000000000000000000\nrecv 0 0 1400000003000200020000000000000000000000\nrecv 0 0 1400000003000200010000000000000000000000\n",
+        0,
+        "sent 0 0 1c0000001a00010301000000000000000000000000000000000000001c0000001a0001030200000000000000000000000000000000000000\nunsol 1 0 0 3 2 2 0 00000000\nclosed 1\nok 3 2 0 0 no\n",
+    ),
+    (
+        &["run", "done"],
+        "batch 0 0 e:1c0000001a0001030000000000000000000000000000000000000000 n:1c0000001a0001030000000000000000000000000000000000000000\nrecv 0 0 1400000003000200020000000000000000000000\nrecv 0 0 1400000003000200010000000000000000000000\n",
+        0,
+        "sent 0 0 1c0000001a00010301000000000000000000000000000000000000001c0000001a0001030200000000000000000000000000000000000000\nunsol 1 0 0 3 2 2 0 00000000\nreply 2 1 3 2 1 0 00000000\nclosed 1\nok 3 2 0 0 no\n",
+    ),
+    (
+        &["run", "ack"],
+        "batch 0 0 f:1c0000001a0005000000000000000000000000000000000000000000\nrecv 0 0 1c000000180000000100000000000000000000000000000000000000\nrecv 0 0 1400000002000000010000000000000000000000\n",
+        0,
+        "sent 0 0 1c0000001a0005000100000000000000000000000000000000000000\nreply 1 1 24 0 1 0 000000000000000000000000\nreply 2 1 2 0 1 0 00000000\nclosed 1\nok 3 2 0 0 no\n",
+    ),
+    (
+        &["run"],
+        "batch 0 0 f:1c0000001a0001030000000000000000000000000000000000000000\nrecv 0 0 14000000030002000100000000000000000000001400000003000200010000000000000000000000\n",
+        0,
+        "sent 0 0 1c0000001a0001030100000000000000000000000000000000000000\nunsol 2 0 0 3 2 1 0 00000000\nclosed 1\nok 2 2 0 0 no\n",
+    ),
+    (
+        &["run", "done", "noop"],
+        "batch 0 0 f:1c0000001a0001030000000000000000000000000000000000000000\nbatch 0 0 f:1c0000001a0001030000000000000000000000000000000000000000\nrecv 0 0 1400000003000200020000000000000000000000140000000300020001000000000000000000000010000000010000000000000000000000\n",
+        0,
+        "sent 0 0 1c0000001a0001030100000000000000000000000000000000000000\nsent 0 0 1c0000001a0001030200000000000000000000000000000000000000\nunsol 3 0 0 1 0 0 0 -\nreply 1 2 3 2 2 0 00000000\nreply 2 1 3 2 1 0 00000000\nclosed 1\nclosed 2\nok 3 3 0 0 no\n",
+    ),
+];
+
 #[test]
 fn replies_find_their_streams(rt: HostRuntime) -> Result<(), Fail> {
-    let alloc = rt.alloc();
-    let rows = [
-        (
-            &["run"].as_slice(),
-            "batch 0 0 e:1c0000001a0001030000000000000000000000000000000000000000 n:1c0000001a0001030000000000000000000000000000000000000000\nrecv 0 0 1400000003000200020000000000000000000000\nrecv 0 0 1400000003000200010000000000000000000000\n",
-            0,
-            "sent 0 0 1c0000001a00010301000000000000000000000000000000000000001c0000001a0001030200000000000000000000000000000000000000\nunsol 1 0 0 3 2 2 0 00000000\nclosed 1\nok 3 2 0 0 no\n",
-        ),
-        (
-            &["run", "done"].as_slice(),
-            "batch 0 0 e:1c0000001a0001030000000000000000000000000000000000000000 n:1c0000001a0001030000000000000000000000000000000000000000\nrecv 0 0 1400000003000200020000000000000000000000\nrecv 0 0 1400000003000200010000000000000000000000\n",
-            0,
-            "sent 0 0 1c0000001a00010301000000000000000000000000000000000000001c0000001a0001030200000000000000000000000000000000000000\nunsol 1 0 0 3 2 2 0 00000000\nreply 2 1 3 2 1 0 00000000\nclosed 1\nok 3 2 0 0 no\n",
-        ),
-        (
-            &["run", "ack"].as_slice(),
-            "batch 0 0 f:1c0000001a0005000000000000000000000000000000000000000000\nrecv 0 0 1c000000180000000100000000000000000000000000000000000000\nrecv 0 0 1400000002000000010000000000000000000000\n",
-            0,
-            "sent 0 0 1c0000001a0005000100000000000000000000000000000000000000\nreply 1 1 24 0 1 0 000000000000000000000000\nreply 2 1 2 0 1 0 00000000\nclosed 1\nok 3 2 0 0 no\n",
-        ),
-        (
-            &["run"].as_slice(),
-            "batch 0 0 f:1c0000001a0001030000000000000000000000000000000000000000\nrecv 0 0 14000000030002000100000000000000000000001400000003000200010000000000000000000000\n",
-            0,
-            "sent 0 0 1c0000001a0001030100000000000000000000000000000000000000\nunsol 2 0 0 3 2 1 0 00000000\nclosed 1\nok 2 2 0 0 no\n",
-        ),
-        (
-            &["run", "done", "noop"].as_slice(),
-            "batch 0 0 f:1c0000001a0001030000000000000000000000000000000000000000\nbatch 0 0 f:1c0000001a0001030000000000000000000000000000000000000000\nrecv 0 0 1400000003000200020000000000000000000000140000000300020001000000000000000000000010000000010000000000000000000000\n",
-            0,
-            "sent 0 0 1c0000001a0001030100000000000000000000000000000000000000\nsent 0 0 1c0000001a0001030200000000000000000000000000000000000000\nunsol 3 0 0 1 0 0 0 -\nreply 1 2 3 2 2 0 00000000\nreply 2 1 3 2 1 0 00000000\nclosed 1\nclosed 2\nok 3 3 0 0 no\n",
-        ),
-    ];
-    for (words, input, status, text) in rows {
-        let words = strings(alloc, words)?;
-        for piece in [1, 100_000] {
-            let mut input = source(alloc, input, piece, &[])?;
-            let mut out = sink(alloc, piece, &[])?;
-            assert_eq!(rt;
-                cli(alloc, words.as_slice(), &mut input, &mut out),
-                status,
-                "at {text}"
-            );
-            assert_eq!(rt; out.bytes(), text.as_bytes(), "at {text}");
-        }
-    }
-    Ok(())
+    check_rows(&rt, rt.alloc(), &REPLIES)
 }
 
 // What a datagram brings, and what it loses.
+const DATAGRAMS: [Row; 5] = [
+    (
+        &["run"],
+        "recv 0 0 1c000000180000000000000000000000000000000000000000000000100000006c00000000000000000000001c0000001800000000000000000000000000000000000000000000000102030405\n",
+        0,
+        "unsol 1 0 0 24 0 0 0 000000000000000000000000\nunsol 2 0 0 24 0 0 0 000000000000000000000000\nok 1 2 2 0 no\n",
+    ),
+    (
+        &["run"],
+        "batch 0 0 f:1c0000001a0001030000000000000000000000000000000000000000\nrecv 0 0 120000000300020001000000000000000000\nclose\n",
+        0,
+        "sent 0 0 1c0000001a0001030100000000000000000000000000000000000000\nclosed 1\nok 3 0 1 0 no\n",
+    ),
+    (
+        &["run"],
+        "recv 0 0 1c0000001800000000000000000000000000000000000000000000001200000003000200010000000000000000001c000000180000000000000000000000000000000000000000000000\n",
+        0,
+        "unsol 1 0 0 24 0 0 0 000000000000000000000000\nunsol 2 0 0 24 0 0 0 000000000000000000000000\nok 1 2 1 0 no\n",
+    ),
+    (&["run"], "recv 0 0 -\n", 0, "ok 1 0 0 0 no\n"),
+    (
+        &["run"],
+        "overrun\n",
+        0,
+        "unsol 1 0 0 4 0 0 0 -\nok 1 1 0 0 no\n",
+    ),
+];
+
 #[test]
 fn datagrams_are_cut(rt: HostRuntime) -> Result<(), Fail> {
-    let alloc = rt.alloc();
-    let rows = [
-        (
-            &["run"].as_slice(),
-            "recv 0 0 1c000000180000000000000000000000000000000000000000000000100000006c00000000000000000000001c0000001800000000000000000000000000000000000000000000000102030405\n",
-            0,
-            "unsol 1 0 0 24 0 0 0 000000000000000000000000\nunsol 2 0 0 108 0 0 0 -\nunsol 3 0 0 24 0 0 0 000000000000000000000000\nok 1 3 1 0 no\n",
-        ),
-        (
-            &["run"].as_slice(),
-            "batch 0 0 f:1c0000001a0001030000000000000000000000000000000000000000\nrecv 0 0 120000000300020001000000000000000000\nclose\n",
-            0,
-            "sent 0 0 1c0000001a0001030100000000000000000000000000000000000000\nclosed 1\nok 3 0 1 0 no\n",
-        ),
-        (
-            &["run"].as_slice(),
-            "recv 0 0 1c0000001800000000000000000000000000000000000000000000001200000003000200010000000000000000001c000000180000000000000000000000000000000000000000000000\n",
-            0,
-            "unsol 1 0 0 24 0 0 0 000000000000000000000000\nunsol 2 0 0 24 0 0 0 000000000000000000000000\nok 1 2 1 0 no\n",
-        ),
-        (&["run"].as_slice(), "recv 0 0 -\n", 0, "ok 1 0 0 0 no\n"),
-        (
-            &["run"].as_slice(),
-            "overrun\n",
-            0,
-            "unsol 1 0 0 4 0 0 0 -\nok 1 1 0 0 no\n",
-        ),
-    ];
-    for (words, input, status, text) in rows {
-        let words = strings(alloc, words)?;
-        for piece in [1, 100_000] {
-            let mut input = source(alloc, input, piece, &[])?;
-            let mut out = sink(alloc, piece, &[])?;
-            assert_eq!(rt;
-                cli(alloc, words.as_slice(), &mut input, &mut out),
-                status,
-                "at {text}"
-            );
-            assert_eq!(rt; out.bytes(), text.as_bytes(), "at {text}");
-        }
-    }
-    Ok(())
+    check_rows(&rt, rt.alloc(), &DATAGRAMS)
 }
 
 // A close closes what is open, ascending, and nothing comes after it.
+const CLOSES: [Row; 5] = [
+    (
+        &["run"],
+        "batch 0 0 f:1c0000001a0001030000000000000000000000000000000000000000\nbatch 0 0 f:1c0000001a0001030000000000000000000000000000000000000000 f:1c0000001a0001030000000000000000000000000000000000000000\nclose\n",
+        0,
+        "sent 0 0 1c0000001a0001030100000000000000000000000000000000000000\nsent 0 0 1c0000001a00010302000000000000000000000000000000000000001c0000001a0001030300000000000000000000000000000000000000\nclosed 1\nclosed 2\nok 3 0 0 0 no\n",
+    ),
+    (&["run"], "close\nclose\n", 3, ""),
+    (&["run"], "close\noverrun\n", 3, ""),
+    (&["run"], "close\nrecv 0 0 -\n", 3, ""),
+    (&["run"], "close\nbatch 0 0\n", 3, ""),
+];
+
 #[test]
 fn closes_end_all(rt: HostRuntime) -> Result<(), Fail> {
-    let alloc = rt.alloc();
-    let rows = [
-        (
-            &["run"].as_slice(),
-            "batch 0 0 f:1c0000001a0001030000000000000000000000000000000000000000\nbatch 0 0 f:1c0000001a0001030000000000000000000000000000000000000000 f:1c0000001a0001030000000000000000000000000000000000000000\nclose\n",
-            0,
-            "sent 0 0 1c0000001a0001030100000000000000000000000000000000000000\nsent 0 0 1c0000001a00010302000000000000000000000000000000000000001c0000001a0001030300000000000000000000000000000000000000\nclosed 1\nclosed 2\nok 3 0 0 0 no\n",
-        ),
-        (&["run"].as_slice(), "close\nclose\n", 3, ""),
-        (&["run"].as_slice(), "close\noverrun\n", 3, ""),
-        (&["run"].as_slice(), "close\nrecv 0 0 -\n", 3, ""),
-        (&["run"].as_slice(), "close\nbatch 0 0\n", 3, ""),
-    ];
-    for (words, input, status, text) in rows {
-        let words = strings(alloc, words)?;
-        for piece in [1, 100_000] {
-            let mut input = source(alloc, input, piece, &[])?;
-            let mut out = sink(alloc, piece, &[])?;
-            assert_eq!(rt;
-                cli(alloc, words.as_slice(), &mut input, &mut out),
-                status,
-                "at {text}"
-            );
-            assert_eq!(rt; out.bytes(), text.as_bytes(), "at {text}");
-        }
-    }
-    Ok(())
+    check_rows(&rt, rt.alloc(), &CLOSES)
 }
 
 // Lines that are just records, and lines that just aren't; the limit.
+const BOUNDARIES: [Row; 8] = [
+    (&["run"], "overrun", 2, ""),
+    (&["run"], "recv 0 0 AB\n", 2, ""),
+    (&["run"], "recv 00 0 -\n", 2, ""),
+    (&["run"], "batch 0 0 f:-\n", 2, ""),
+    (
+        &["run", "limit=8"],
+        "overrun\n",
+        0,
+        "unsol 1 0 0 4 0 0 0 -\nok 1 1 0 0 no\n",
+    ),
+    (&["run", "limit=7"], "overrun\n", 6, ""),
+    (
+        &["run", "limit=8"],
+        "overrun\noverrun\n",
+        6,
+        "unsol 1 0 0 4 0 0 0 -\n",
+    ),
+    (&["run", "limit=4"], "bad\nmore", 2, ""),
+];
+
 #[test]
 fn boundaries_are_kept(rt: HostRuntime) -> Result<(), Fail> {
-    let alloc = rt.alloc();
-    let rows = [
-        (&["run"].as_slice(), "overrun", 2, ""),
-        (&["run"].as_slice(), "recv 0 0 AB\n", 2, ""),
-        (&["run"].as_slice(), "recv 00 0 -\n", 2, ""),
-        (&["run"].as_slice(), "batch 0 0 f:-\n", 2, ""),
-        (
-            &["run", "limit=8"].as_slice(),
-            "overrun\n",
-            0,
-            "unsol 1 0 0 4 0 0 0 -\nok 1 1 0 0 no\n",
-        ),
-        (&["run", "limit=7"].as_slice(), "overrun\n", 6, ""),
-        (
-            &["run", "limit=8"].as_slice(),
-            "overrun\noverrun\n",
-            6,
-            "unsol 1 0 0 4 0 0 0 -\n",
-        ),
-        (&["run", "limit=4"].as_slice(), "bad\nmore", 2, ""),
-    ];
-    for (words, input, status, text) in rows {
-        let words = strings(alloc, words)?;
-        for piece in [1, 100_000] {
-            let mut input = source(alloc, input, piece, &[])?;
-            let mut out = sink(alloc, piece, &[])?;
-            assert_eq!(rt;
-                cli(alloc, words.as_slice(), &mut input, &mut out),
-                status,
-                "at {text}"
-            );
-            assert_eq!(rt; out.bytes(), text.as_bytes(), "at {text}");
-        }
-    }
-    Ok(())
+    check_rows(&rt, rt.alloc(), &BOUNDARIES)
 }
 
 // A datagram has at most 65,536 bytes.

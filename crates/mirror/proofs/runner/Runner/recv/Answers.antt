@@ -1,6 +1,7 @@
 use Rattle.std.proofs.Common.{[], refl, ◌∙◌, ap, arith, length}
 use Rattle.session_model.specs.Events.{datagram_events}
 use Rattle.mirror.specs.Format.{format}
+use Rattle.mirror.specs.Steps.{arrived}
 use Rattle.mirror.proofs.StepLaws.{keeps_all, more_events, no_more_events}
 use Rattle.mirror.proofs.runner.Runner.recv.Goals as goal
 
@@ -9,20 +10,16 @@ loop-reader-init c =
     let same = c.from-reader.ensures ∙ c.into_vec.ensures in
     let count = ap length same in record {
       keeps = record { settings = refl; last = refl; streams = refl; lines = refl; closed = refl };
-      arrived = c.requires.arrived;
       messages = omega (arith, count);
       dropped = omega (arith, count);
       amid = λ s rs h. ([], ap (datagram_events format c.args.source) same, h);
     }
 
-pub take_next-requires-clause-room : goal.take_next-requires-clause-room
-take_next-requires-clause-room c =
+pub take_next-requires : goal.take_next-requires
+take_next-requires c =
     let m = c.loop-reader.invariant.messages in
     let d = c.loop-reader.invariant.dropped in
-    (omega (arith, m, c.requires.room.0), omega (arith, d, c.requires.room.1))
-
-pub take_next-requires-clause-arrived : goal.take_next-requires-clause-arrived
-take_next-requires-clause-arrived c = c.loop-reader.invariant.arrived
+    (omega (arith, m, c.requires.0), omega (arith, d, c.requires.1))
 
 pub loop-reader-smaller : goal.loop-reader-smaller
 loop-reader-smaller c = rw c.if-branch.true at c.in_ok-take_next.ensures.shorter
@@ -35,7 +32,6 @@ loop-reader-preserved c =
     let m = e.count.0 in
     let d = e.count.1 in record {
       keeps = keeps_all _ _ _ i.keeps e.keeps;
-      arrived = e.arrived;
       messages = omega (arith, i.messages, m, less);
       dropped = omega (arith, i.dropped, d, less);
       amid = λ s rs h. more_events s rs c.args.source _ _ c.args.bytes _ _ _ _ (i.amid s rs h) ((rw c.if-branch.true at e.step) s rs);
@@ -47,7 +43,7 @@ returns-clause-keeps c = keeps_all _ _ _ c.loop-reader.invariant.keeps c.in_ok-t
 pub returns-clause-count : goal.returns-clause-count
 returns-clause-count c =
     let end = rw c.if-branch.false at c.in_ok-take_next.ensures.end in
-    let m = ap (λ r. r.messages) end.1 in
+    let m = ap arrived end.1 in
     let d = ap (λ r. r.dropped) end.1 in
     (omega (arith, c.loop-reader.invariant.messages, m), omega (arith, c.loop-reader.invariant.dropped, d))
 
