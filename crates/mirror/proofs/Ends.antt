@@ -18,7 +18,7 @@ use Rattle.mirror.specs.Faults.{IsTaking, IsWriting}
 use Rattle.mirror.specs.Feeding.{Reached, Steady, Fed, HaltsBy, HaltedBy}
 use Rattle.mirror.specs.Io.{Gained, GainedSome, with_back, with_front}
 use Rattle.mirror.specs.Outcome.{Running, Standing, EndsBy, Ended, WasRun}
-use Rattle.mirror.specs.Steps.{Tracks, Counted, AreAllTaken, arrived, text_of}
+use Rattle.mirror.specs.Steps.{Tracks, Counted, AreAllTaken, message_count, text_of}
 
 pub front_none : (o : Option (List ℕ)) → o ≡ with_front [] o
 front_none None = refl
@@ -106,7 +106,7 @@ pub steady_same : (p q : Progress) → Steady p → q.runner ≡ p.runner → q.
 steady_same p q h runner line taken = record {
   counted = subst Counted (sym runner) h.counted;
   lines = within (λ r. r.lines) h.lines;
-  messages = within arrived h.messages;
+  messages = within message_count h.messages;
   dropped = within (λ r. r.dropped) h.dropped;
 }
   where

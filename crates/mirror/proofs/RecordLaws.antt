@@ -52,7 +52,7 @@ use Rattle.mirror.specs.Format.{IsEntry, Message, format}
 use Rattle.mirror.specs.Faults.{IsStepping, IsWriting}
 use Rattle.mirror.specs.Io.{GainedSome}
 use Rattle.mirror.specs.Refusals.{fault_of}
-use Rattle.mirror.specs.Steps.{Amid, Brought, Fails, Keeps, Sends, Tracks, WhyNot, arrived, closes, events, fault_at, open_at, text_behind}
+use Rattle.mirror.specs.Steps.{Amid, Brought, Fails, Keeps, Sends, Tracks, WhyNot, message_count, closes, events, fault_at, open_at, text_behind}
 use Rattle.mirror.proofs.Ends.{gained_none}
 use Rattle.mirror.proofs.StepLaws.{dropped-append}
 
@@ -268,7 +268,7 @@ brought_tracks s rs r old new answer h entry b lines =
 
 -- ---- the report
 
-pub reported : (s : Settings) (rs : List Record) (runner : Runner) (messages still_open : ℕ) → Tracks s rs runner → messages ≡ arrived runner → IsStrictlySortedBy nat_cmp (keys runner.open_streams) → still_open ≡ length runner.open_streams.entries
+pub reported : (s : Settings) (rs : List Record) (runner : Runner) (messages still_open : ℕ) → Tracks s rs runner → messages ≡ message_count runner → IsStrictlySortedBy nat_cmp (keys runner.open_streams) → still_open ≡ length runner.open_streams.entries
     → record { lines = runner.lines; messages = messages; dropped = runner.dropped; still_open = still_open; in_step = false } ≡ report_of format s rs
 reported s rs runner messages still_open h count_is ordered is =
     let ks : keys runner.open_streams ≡ open_streams s.start (events rs) = open_is s.start (events rs) (open_at runner) (keys runner.open_streams) h.counts (rises (keys runner.open_streams) ordered) (has_entry runner.open_streams.entries) in

@@ -9,7 +9,7 @@ use Rattle.session_model.specs.Transcript.{lines_of, has_newline}
 use Rattle.mirror.specs.declared.progress.Progress.{Progress}
 use Rattle.mirror.specs.declared.runner.Runner.{Runner}
 use Rattle.mirror.specs.Format.{IsEntry, format}
-use Rattle.mirror.specs.Steps.{Tracks, Counted, AreAllTaken, arrived, text_of}
+use Rattle.mirror.specs.Steps.{Tracks, Counted, AreAllTaken, message_count, text_of}
 
 -- Bytes are the lines of records that are taken and an unfinished line, and text is the text of these records.
 pub record Reached (s : Settings) (bytes : List ℕ) (runner : Runner) (line text : List ℕ) : Type 0 where
@@ -29,7 +29,7 @@ Fed runner line waiting piece runner' line' waiting' =
 pub record Steady (p : Progress) : Type 0 where
   pub counted : Counted p.runner
   pub lines : 2 * p.runner.lines + vec_len p.line ≤ p.taken
-  pub messages : 2 * arrived p.runner + vec_len p.line ≤ p.taken
+  pub messages : 2 * message_count p.runner + vec_len p.line ≤ p.taken
   pub dropped : 2 * p.runner.dropped + vec_len p.line ≤ p.taken
 
 -- Why a run halts behind records, before what is left of the input, want of memory apart.

@@ -18,9 +18,9 @@ abbrev pub IsEntry : Record → Type 0
 IsEntry r = IsRecord format r
 
 -- Bytes are one frame that can be read.
-pub record IsReadFrame {M : Type 0} (reads : ℕ → List ℕ → Result M DecodeError) (bytes : List ℕ) : Type 0 where
+pub record IsFrameReadBy {M : Type 0} (reads : ℕ → List ℕ → Result M DecodeError) (bytes : List ℕ) : Type 0 where
   pub frame : IsFrame bytes
   pub readable : IsOk (frame_at reads bytes)
 
 abbrev pub IsFrameRead : List ℕ → Type 0
-IsFrameRead bytes = IsReadFrame format.reads bytes
+IsFrameRead bytes = IsFrameReadBy format.reads bytes

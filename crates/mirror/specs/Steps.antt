@@ -47,9 +47,15 @@ open_at runner stream = get nat_cmp runner.open_streams stream
 abbrev pub closes : Answer → ℕ → Bool
 closes answer stream = contains nat_cmp answer.closing stream
 
--- How many messages arrived.
-abbrev pub arrived : Runner → ℕ
-arrived runner = runner.session.session.arrived
+-- How many lines were taken, how many messages arrived, and how many unreadable frames and rests were dropped.
+abbrev pub line_count : Runner → ℕ
+line_count runner = runner.lines
+
+abbrev pub message_count : Runner → ℕ
+message_count runner = runner.session.session.arrived
+
+abbrev pub drop_count : Runner → ℕ
+drop_count runner = runner.dropped
 
 -- A runner and the answer of the record at hand, amid its events.
 pub record Amid (s : Settings) (rs : List Record) (es : List (Event Message)) (runner : Runner) (answer : Answer) : Type 0 where
@@ -119,7 +125,7 @@ weight (Batch to frames) = 0
 -- The counts of a runner after one record more.
 pub record Grows (r : Record) (old new : Runner) : Type 0 where
   pub lines : new.lines ≡ old.lines + 1
-  pub messages : arrived new ≤ arrived old + weight r
+  pub messages : message_count new ≤ message_count old + weight r
   pub dropped : new.dropped ≤ old.dropped + weight r
 
 -- Why a record isn't taken behind others, want of memory apart.

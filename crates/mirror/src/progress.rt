@@ -2,7 +2,7 @@
 ghost use Rattle.std.specs.Prelude.{◌≡◌, ◌+◌, ◌*◌, ◌^◌, ◌<◌, ◌≤◌, [], ◌∷◌, ◌++◌, OnOk, OnErr, IfOk, IfErr, IfSome, Err, length, vec_len};
 ghost use Rattle.mirror.specs.Io.{Gained, GainedSome, HasRisen, with_back};
 ghost use Rattle.mirror.specs.Faults.{IsTaking, IsWriting};
-ghost use Rattle.mirror.specs.Steps.{Counted, arrived};
+ghost use Rattle.mirror.specs.Steps.{Counted, drop_count, line_count, message_count};
 ghost use Rattle.mirror.specs.Feeding.{Reached, Steady, Fed, HaltedBy};
 ghost use Rattle.mirror.specs.Outcome.{Running, Standing, Ended};
 
@@ -31,7 +31,7 @@ impl Progress {
     /// Nothing read so far.
     pub fn new(alloc: Global, runner: Runner) -> Self
         requires counted { Counted runner }
-        requires none { (runner.lines ≡ 0) × (arrived runner ≡ 0) × (runner.dropped ≡ 0) }
+        requires none { (line_count runner ≡ 0) × (message_count runner ≡ 0) × (drop_count runner ≡ 0) }
         ensures steady { Steady result }
         ensures runner { result.runner ≡ runner }
         ensures line { result.line.items ≡ [] }
@@ -53,7 +53,7 @@ impl Progress {
         requires within { self.old.taken < self.old.runner.settings.limit }
         ensures counted { OnOk result (Counted self.new.runner) }
         ensures lines { OnOk result (2 * self.new.runner.lines ≤ self.old.taken + 1) }
-        ensures messages { OnOk result (2 * arrived self.new.runner ≤ self.old.taken + 1) }
+        ensures messages { OnOk result (2 * message_count self.new.runner ≤ self.old.taken + 1) }
         ensures dropped { OnOk result (2 * self.new.runner.dropped ≤ self.old.taken + 1) }
         ensures line { OnOk result ((self.new.line.items ≡ []) × (vec_len self.new.line ≡ 0)) }
         ensures taken { self.new.taken ≡ self.old.taken }

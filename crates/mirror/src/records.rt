@@ -5,7 +5,7 @@ ghost use Rattle.session_model.specs.Transcript.{record_line};
 ghost use Rattle.session_model.specs.declared.transcript.BatchFrame.{BatchFrame};
 ghost use Rattle.session_model.specs.Causes.{IsNoRecord};
 ghost use Rattle.transcript_lines.specs.Line.{IsSpelled};
-ghost use Rattle.mirror.specs.Format.{IsEntry, IsFrameRead, IsReadFrame, format};
+ghost use Rattle.mirror.specs.Format.{IsEntry, IsFrameRead, IsFrameReadBy, format};
 
 use crate::message::Message;
 use nl_core::{NetlinkDeserializable, NoMemory};
@@ -18,7 +18,7 @@ fn is_whole_frame<T: NetlinkDeserializable + Drop>(
     alloc: Global,
     bytes: &[u8],
 ) -> Result<bool, NoMemory>
-    ensures { IfOk result (λ b. IsTrue b ↔ IsReadFrame T.reads bytes.now) }
+    ensures { IfOk result (λ b. IsTrue b ↔ IsFrameReadBy T.reads bytes.now) }
 {
     match read_frame::<T>(alloc, bytes)? {
         Some(message) => Ok(message.header.length as usize == bytes.len()),

@@ -56,13 +56,13 @@ impl Runner {
     ghost use Rattle.session_model.specs.Reported.{report_of};
     ghost use Rattle.session_steps.specs.Stage.{Brings};
     ghost use Rattle.mirror.specs.Format.{IsEntry, Message};
-    ghost use Rattle.mirror.specs.Steps.{Advances, Amid, Brought, Counted, Fails, Grows, Keeps, Sends, Tracks, WhyNot, arrived, text_behind, weight};
+    ghost use Rattle.mirror.specs.Steps.{Advances, Amid, Brought, Counted, Fails, Grows, Keeps, Sends, Tracks, WhyNot, drop_count, line_count, message_count, text_behind, weight};
 
     /// No records so far.
     pub fn new(alloc: Global, settings: &Settings) -> Result<Runner, NoMemory>
         ensures tracks { IfOk result (λ r. Tracks settings.now [] r) }
         ensures counted { IfOk result (λ r. Counted r) }
-        ensures none { IfOk result (λ r. (r.lines ≡ 0) × (arrived r ≡ 0) × (r.dropped ≡ 0)) }
+        ensures none { IfOk result (λ r. (line_count r ≡ 0) × (message_count r ≡ 0) × (drop_count r ≡ 0)) }
     {
         Ok(Runner {
             alloc,
@@ -83,10 +83,10 @@ impl Runner {
         source: SocketAddr,
         answer: &mut Answer,
     ) -> Result<(), NoMemory>
-        requires { arrived self.old + 1 < 2 ^ 64 }
+        requires { message_count self.old + 1 < 2 ^ 64 }
         ensures settings { self.new.settings ≡ self.old.settings }
         ensures keeps { OnOk result (Keeps self.old self.new) }
-        ensures count { OnOk result ((arrived self.new ≡ arrived self.old + 1) × (self.new.dropped ≡ self.old.dropped)) }
+        ensures count { OnOk result ((message_count self.new ≡ message_count self.old + 1) × (self.new.dropped ≡ self.old.dropped)) }
         ensures step { OnOk result ((s : Settings) (rs : List Record) (es : List (Event Message)) (e : Event Message) → Brings e (record { message = message; source = source } ∷ [])
             → Amid s rs es self.old answer.old → Amid s rs (es ++ e ∷ []) self.new answer.new) }
     {
@@ -111,10 +111,10 @@ impl Runner {
         reader: &mut BytesMut,
         answer: &mut Answer,
     ) -> Result<bool, NoMemory>
-        requires { (arrived self.old + length reader.old.items < 2 ^ 64) × (self.old.dropped + length reader.old.items < 2 ^ 64) }
+        requires { (message_count self.old + length reader.old.items < 2 ^ 64) × (self.old.dropped + length reader.old.items < 2 ^ 64) }
         ensures settings { self.new.settings ≡ self.old.settings }
         ensures keeps { OnOk result (Keeps self.old self.new) }
-        ensures count { OnOk result ((arrived self.new ≤ arrived self.old + 1) × (self.new.dropped ≤ self.old.dropped + 1)) }
+        ensures count { OnOk result ((message_count self.new ≤ message_count self.old + 1) × (self.new.dropped ≤ self.old.dropped + 1)) }
         ensures shorter { IfOk result (λ more. OnTrue more (length reader.new.items < length reader.old.items)) }
         ensures step { IfOk result (λ more. OnTrue more ((s : Settings) (rs : List Record) (es : List (Event Message)) → Amid s rs es self.old answer.old
             → Advances s rs es source reader.old.items reader.new.items self.new answer.new)) }
@@ -135,10 +135,10 @@ impl Runner {
         bytes: Octets,
         answer: &mut Answer,
     ) -> Result<(), NoMemory>
-        requires { (arrived self.old + length bytes < 2 ^ 64) × (self.old.dropped + length bytes < 2 ^ 64) }
+        requires { (message_count self.old + length bytes < 2 ^ 64) × (self.old.dropped + length bytes < 2 ^ 64) }
         ensures settings { self.new.settings ≡ self.old.settings }
         ensures keeps { OnOk result (Keeps self.old self.new) }
-        ensures count { OnOk result ((arrived self.new ≤ arrived self.old + length bytes) × (self.new.dropped ≤ self.old.dropped + length bytes)) }
+        ensures count { OnOk result ((message_count self.new ≤ message_count self.old + length bytes) × (self.new.dropped ≤ self.old.dropped + length bytes)) }
         ensures step { OnOk result ((s : Settings) (rs : List Record) → Amid s rs [] self.old answer.old → Amid s rs (datagram_events format source bytes) self.new answer.new) }
     {
         let mut reader = BytesMut::from(bytes.into_vec());
@@ -158,7 +158,7 @@ impl Runner {
         requires entry { IsEntry (Batch to frames.now) }
         ensures settings { self.new.settings ≡ self.old.settings }
         ensures kept { OnOk result ((self.new.lines ≡ self.old.lines) × (self.new.closed ≡ self.old.closed)) }
-        ensures counts { OnOk result ((self.new.streams ≡ self.old.streams + 1) × (arrived self.new ≡ arrived self.old) × (self.new.dropped ≡ self.old.dropped)) }
+        ensures counts { OnOk result ((self.new.streams ≡ self.old.streams + 1) × (message_count self.new ≡ message_count self.old) × (self.new.dropped ≡ self.old.dropped)) }
         ensures numbers { OnOk result (self.new.session.session.last < 2 ^ 32) }
         ensures step { OnOk result ((s : Settings) (rs : List Record) → Tracks s rs self.old → self.old.closed ≡ false → Sends s rs to frames.now self.new answer.new) }
         ensures cause { IfErr result (λ e. (s : Settings) (rs : List Record) → Tracks s rs self.old → self.old.closed ≡ false → WhyNot s rs (Batch to frames.now) e) }
@@ -192,14 +192,14 @@ impl Runner {
         requires entry { IsEntry entry }
         requires counted { Counted self.old }
         requires fresh { (answer.old.text.items ≡ []) × (answer.old.replies.items ≡ []) × (answer.old.closing.keys ≡ []) }
-        requires lines { self.old.lines < 2 ^ 63 }
-        requires messages { arrived self.old < 2 ^ 63 }
-        requires dropped { self.old.dropped < 2 ^ 63 }
+        requires lines { line_count self.old < 2 ^ 63 }
+        requires messages { message_count self.old < 2 ^ 63 }
+        requires dropped { drop_count self.old < 2 ^ 63 }
         ensures settings { self.new.settings ≡ self.old.settings }
         ensures lines { OnOk result (self.new.lines ≡ self.old.lines) }
         ensures streams { OnOk result (self.new.streams ≤ self.old.streams + 1) }
         ensures numbers { OnOk result (self.new.session.session.last < 2 ^ 32) }
-        ensures messages { OnOk result (arrived self.new ≤ arrived self.old + weight entry) }
+        ensures messages { OnOk result (message_count self.new ≤ message_count self.old + weight entry) }
         ensures dropped { OnOk result (self.new.dropped ≤ self.old.dropped + weight entry) }
         ensures step { OnOk result ((s : Settings) (rs : List Record) → Tracks s rs self.old → IsOrdered nat_cmp answer.new.closing → Brought s rs entry self.new answer.new) }
         ensures cause { IfErr result (λ e. (s : Settings) (rs : List Record) → Tracks s rs self.old → WhyNot s rs entry e) }
@@ -230,9 +230,9 @@ impl Runner {
     fn take(&mut self, entry: Record) -> Result<Vec<u8>, StepFault>
         requires entry { IsEntry entry }
         requires counted { Counted self.old }
-        requires lines { self.old.lines < 2 ^ 63 }
-        requires messages { arrived self.old < 2 ^ 63 }
-        requires dropped { self.old.dropped < 2 ^ 63 }
+        requires lines { line_count self.old < 2 ^ 63 }
+        requires messages { message_count self.old < 2 ^ 63 }
+        requires dropped { drop_count self.old < 2 ^ 63 }
         ensures settings { self.new.settings ≡ self.old.settings }
         ensures counted { OnOk result (Counted self.new) }
         ensures grows { OnOk result (Grows entry self.old self.new) }
@@ -252,9 +252,9 @@ impl Runner {
     pub fn step<K: Sink>(&mut self, at: u64, line: Record, out: &mut K) -> Result<(), RunFault>
         requires entry { IsEntry line }
         requires counted { Counted self.old }
-        requires lines { self.old.lines < 2 ^ 63 }
-        requires messages { arrived self.old < 2 ^ 63 }
-        requires dropped { self.old.dropped < 2 ^ 63 }
+        requires lines { line_count self.old < 2 ^ 63 }
+        requires messages { message_count self.old < 2 ^ 63 }
+        requires dropped { drop_count self.old < 2 ^ 63 }
         ensures settings { self.new.settings ≡ self.old.settings }
         ensures counted { OnOk result (Counted self.new) }
         ensures grows { OnOk result (Grows line self.old self.new) }

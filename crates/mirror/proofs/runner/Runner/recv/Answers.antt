@@ -1,7 +1,7 @@
 use Rattle.std.proofs.Common.{[], refl, ◌∙◌, ap, arith, length}
 use Rattle.session_model.specs.Events.{datagram_events}
 use Rattle.mirror.specs.Format.{format}
-use Rattle.mirror.specs.Steps.{arrived}
+use Rattle.mirror.specs.Steps.{message_count}
 use Rattle.mirror.proofs.StepLaws.{keeps_all, more_events, no_more_events}
 use Rattle.mirror.proofs.runner.Runner.recv.Goals as goal
 
@@ -43,7 +43,7 @@ returns-clause-keeps c = keeps_all _ _ _ c.loop-reader.invariant.keeps c.in_ok-t
 pub returns-clause-count : goal.returns-clause-count
 returns-clause-count c =
     let end = rw c.if-branch.false at c.in_ok-take_next.ensures.end in
-    let m = ap arrived end.1 in
+    let m = ap message_count end.1 in
     let d = ap (λ r. r.dropped) end.1 in
     (omega (arith, c.loop-reader.invariant.messages, m), omega (arith, c.loop-reader.invariant.dropped, d))
 
