@@ -1,5 +1,5 @@
 -- What one step of a walk does to the view that it stands in, and to the stack.
-use Rattle.std.specs.Prelude.{◌≡◌, ℕ, ◌+◌, ◌<◌, ◌↔◌, ⊤, List}
+use Rattle.std.specs.Prelude.{◌≡◌, ℕ, ◌+◌, ◌<◌, ◌↔◌, List}
 use Rattle.std.specs.Int.{bit_at}
 use Rattle.trie_model.specs.Nets.{Net}
 use Rattle.trie_model.specs.Views.{Told, data_net, TookData, TookChild, IsChild}
@@ -21,8 +21,8 @@ MoveOf {L} {P} {T} {X} tell item net raw w old new End = (n : Net) (x : X) → L
 MoveOf {L} {P} {T} {X} tell item net raw w old new On = (n : Net) (x : X) → Left tell new n x ↔ Left tell old n x
 MoveOf tell item net raw w old new (Found p x) = Gives w tell old new (net p) (item x) × (raw p ≡ (net p).bits)
 
--- a move that gives nothing leaves less to do
+-- a move leaves less to do, and at the end nothing is left to do
 abbrev pub Lessens : {L P T X : Type 0} → (L → Told X) → (L → ℕ) → ℕ → List L → List L → Move P T → Type 0
-Lessens tell spot w old new End = ⊤
+Lessens tell spot w old new End = work w tell spot new ≡ 0
 Lessens tell spot w old new On = work w tell spot new < work w tell spot old
-Lessens tell spot w old new (Found p x) = ⊤
+Lessens tell spot w old new (Found p x) = work w tell spot new < work w tell spot old

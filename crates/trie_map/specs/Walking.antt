@@ -2,7 +2,7 @@
 use Rattle.std.specs.Prelude.{◌≡◌, ⊤, ℕ, List, [], Option, Some, None, Result, Ok, Err, vec_capacity}
 use Rattle.trie_model.specs.Nets.{Net}
 use Rattle.trie_model.specs.Views.{Told}
-use Rattle.trie_model.specs.Walks.{AllFrugal, Left, Gives, ListGoesOn, Roomy, WalkOk, rest}
+use Rattle.trie_model.specs.Walks.{AllFrugal, Left, Gives, ListGoesOn, Roomy, WalkOk, rest, work}
 use Rattle.trie_map.specs.declared.walk.ViewIter.{ViewIter}
 
 -- the walk may go on, and has the room for it
@@ -13,6 +13,14 @@ pub record CanWalk {V X : Type 0} (valid : V → Type 0) (tell : V → Told X) (
 -- the walk takes no memory
 abbrev pub IsFrugalWalk : {V X : Type 0} → (V → Told X) → ViewIter V → Type 0
 IsFrugalWalk tell walk = AllFrugal (λ l. tell l.view) walk.levels.items
+
+-- how much walking is left to do at most
+abbrev pub work_left : {V X : Type 0} → (V → Told X) → ℕ → ViewIter V → ℕ
+work_left tell w walk = work w (λ l. tell l.view) (λ l. l.spot) walk.levels.items
+
+-- the walk is over: nothing comes any more
+abbrev pub IsOver : {V X : Type 0} → (V → Told X) → ℕ → ViewIter V → Type 0
+IsOver tell w walk = work_left tell w walk ≡ 0
 
 -- the pairs that are still to come
 abbrev pub ToCome : {V X : Type 0} → (V → Told X) → ℕ → ViewIter V → Net → X → Type 0

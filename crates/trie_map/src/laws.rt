@@ -1,13 +1,19 @@
-//! Laws of prefixes, of their order, and of lists in this order. The functions do nothing: each says
-//! a law by its contract.
+//! Laws of prefixes, of their order, of lists in this order, and of whole walks. Each function says a
+//! law by its contract, and all but the last do nothing.
 
-ghost use Rattle.std.specs.Prelude.{◌≡◌, ◌↔◌, ◌⊎◌, ◌<◌, ◌≤◌, List, true};
+ghost use Rattle.std.specs.Prelude.{◌≡◌, ℕ, ◌↔◌, ◌⊎◌, ◌<◌, ◌≤◌, IfOk, List, map, true};
+ghost use Rattle.std.specs.Int.{bit_at};
 ghost use Rattle.trie_model.specs.Heap.{order_key};
 ghost use Rattle.trie_model.specs.Nets.{Net, covers};
+ghost use Rattle.trie_model.specs.Views.{HasBelow};
 ghost use Rattle.trie_model.specs.Walks.{IsListOf};
 
 use crate::prefix::Place;
+use crate::refs::TrieRef;
 use crate::view::TrieView;
+use crate::walk::ViewIter;
+use nl_core::NoMemory;
+use std::alloc::Global;
 
 /// Of the prefixes without host bits, "contains" is a partial order.
 pub fn contains_is_order<P: Place>(a: &P, b: &P, c: &P)
@@ -35,4 +41,28 @@ pub fn one_list_in_order<'a, V: TrieView<'a>>(view: &V)
     ensures { (ps qs : List (Net × V.Item)) → IsListOf V.P.Number.width (V.told view.now).at ps → IsListOf V.P.Number.width (V.told view.now).at qs → ps ≡ qs }
 {
     let _view = view;
+}
+
+/// The child bitmap of a view of a map or set has exactly the children with an entry inside the view.
+pub fn children_have_entries<'a, P: Place, T>(view: &TrieRef<'a, P, T>)
+    requires { ⟦<TrieRef<'a, P, T> as TrieView<'a>>⟧.valid view.now }
+    ensures { (bit : ℕ) → bit_at (⟦<TrieRef<'a, P, T> as TrieView<'a>>⟧.told view.now).child_bits bit ≡ 1 → HasBelow P.Number.width (⟦<TrieRef<'a, P, T> as TrieView<'a>>⟧.told view.now) bit }
+{
+    let _view = view;
+}
+
+/// The whole walk of a view gives the list of the view in strictly ascending order, and ends.
+pub fn walk_gives_the_list<'a, V: TrieView<'a>>(
+    alloc: Global,
+    view: V,
+) -> Result<Vec<(V::P, V::T)>, NoMemory>
+    requires { V.valid view }
+    ensures { IfOk result (λ pairs. IsListOf V.P.Number.width (V.told view).at (map (λ p. (V.P.net p.0, V.item p.1)) pairs.items)) }
+{
+    let mut walk = ViewIter::new(alloc, view)?;
+    let mut pairs = Vec::new(alloc);
+    'pairs: while let Some(pair) = walk.next() {
+        pairs.push(pair?)?;
+    }
+    Ok(pairs)
 }

@@ -13,7 +13,10 @@ mod try_clone;
 mod view;
 mod walk;
 
-pub use laws::{contains_is_order, one_list_in_order, order_is_total};
+pub use laws::{
+    children_have_entries, contains_is_order, one_list_in_order, order_is_total,
+    walk_gives_the_list,
+};
 pub use map::PrefixMap;
 pub use masks::{
     child_bit, child_cover_mask, child_cover_mask_for_bit, data_bit, data_cover_mask,

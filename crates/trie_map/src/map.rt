@@ -6,7 +6,7 @@ ghost use Rattle.trie_map.specs.Walking.{CanWalk, IsFrugalWalk, ToCome};
 ghost use Rattle.trie_model.specs.Inside.{LiesIn, SomeIn};
 ghost use Rattle.trie_model.specs.Maps.{LongestMatch, inserted, missing, present, removed, value_at};
 ghost use Rattle.trie_model.specs.Nets.{Net};
-ghost use Rattle.trie_model.specs.Walks.{From, IsListOf, Within};
+ghost use Rattle.trie_model.specs.Walks.{From, IsListOf, Within, pairs_from};
 
 use crate::node::{Deepest, Descent, Node, Steps, empty, find, longest, put, take};
 use crate::prefix::Place;
@@ -164,6 +164,7 @@ impl<P: Place, T> PrefixMap<P, T> {
         ensures usable { IfOk result (λ walk. CanWalk ⟦<TrieRef<'a, P, T> as TrieView<'a>>⟧.valid ⟦<TrieRef<'a, P, T> as TrieView<'a>>⟧.told P.Number.width walk) }
         ensures frugal { IfOk result (λ walk. IsFrugalWalk ⟦<TrieRef<'a, P, T> as TrieView<'a>>⟧.told walk) }
         ensures rest { IfOk result (λ walk. (n : Net) (x : T) → ToCome ⟦<TrieRef<'a, P, T> as TrieView<'a>>⟧.told P.Number.width walk n x ↔ (Within self.now n x × From P.Number.width inclusive (P.net prefix.now) n)) }
+        ensures list { IfOk result (λ walk. IsListOf P.Number.width (ToCome ⟦<TrieRef<'a, P, T> as TrieView<'a>>⟧.told P.Number.width walk) (pairs_from P.Number.width inclusive (P.net prefix.now) self.now)) }
     {
         ViewIter::starting(self.alloc, self.view(), prefix, inclusive)
     }

@@ -151,6 +151,7 @@ pub fn data_cover_mask<W: Word>(depth: u32, key: W, len: u32) -> u32
     requires end { len ≤ W.width }
     ensures mask { (bit : ℕ) → bit < 31 → depth + level_of bit ≤ W.width → bit_at result bit ≡ cond (covers W.width (prefix_net W.width (W.number key) len) (net_of_bit W.width depth (W.number key) bit)) 1 0 }
     ensures small { result < 2 ^ 31 }
+    ensures rows { result ≡ rows_below (data_bit_of W.width depth (W.number key) len + 1) }
 {
     data_cover_mask_for_bit(data_bit(depth, key, len))
 }
@@ -161,7 +162,8 @@ pub fn child_cover_mask<W: Word>(depth: u32, key: W, len: u32) -> u32
     requires low { depth ≤ len }
     requires high { len ≤ depth + 4 }
     requires end { len ≤ W.width }
-    ensures { (child : ℕ) → child < 32 → depth + 5 ≤ W.width → bit_at result child ≡ cond (covers W.width (prefix_net W.width (W.number key) len) (child_at W.width depth (W.number key) child)) 1 0 }
+    ensures mask { (child : ℕ) → child < 32 → depth + 5 ≤ W.width → bit_at result child ≡ cond (covers W.width (prefix_net W.width (W.number key) len) (child_at W.width depth (W.number key) child)) 1 0 }
+    ensures rows { result ≡ children_below (data_bit_of W.width depth (W.number key) len + 1) }
 {
     child_cover_mask_for_bit(data_bit(depth, key, len))
 }

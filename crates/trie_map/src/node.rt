@@ -78,7 +78,7 @@ pub struct Node<T> {
 /// A node that was counted, and so may be read.
 #[derive(Drop)]
 pub struct Visited<'a, T> {
-    pub(crate) node: &'a Node<T>,
+    node: &'a Node<T>,
 }
 
 /// Counts a node, and lets it be read.
@@ -92,6 +92,13 @@ pub fn visit<'a, T, L>(node: &'a Node<T>, steps: &mut Steps<L>) -> Visited<'a, T
 }
 
 impl<'a, T> Visited<'a, T> {
+    /// The same node, which was counted already.
+    pub fn again(&self) -> Self
+        ensures { result ≡ self.now }
+    {
+        Visited { node: self.node }
+    }
+
     /// The data bits of the node.
     pub fn data_bitmap(&self) -> u32
         ensures { result ≡ node_form.marks self.now.node.now }

@@ -4,10 +4,11 @@ ghost use Rattle.trie_map.specs.Forms.{node_form};
 ghost use Rattle.trie_model.specs.Maps.{map_of, pairs};
 ghost use Rattle.trie_model.specs.Inside.{LiesIn, SomeIn};
 ghost use Rattle.trie_model.specs.Nets.{Net};
+ghost use Rattle.trie_model.specs.Views.{IsSame};
 ghost use Rattle.trie_model.specs.Walks.{Within};
 ghost use Rattle.trie_model.specs.Tries.{Cleared, Full, Good, RefOk, ref_told};
 ghost use Rattle.trie_model.proofs.TrieLaws.{ref_laws};
-ghost use Rattle.std.specs.Prelude.{◌≡◌, ◌↔◌, ℕ, ◌+◌, ◌-◌, ◌^◌, ◌<◌, ◌≤◌, min, IfNone, IfSome, OnSome};
+ghost use Rattle.std.specs.Prelude.{◌≡◌, ◌↔◌, ℕ, ◌+◌, ◌-◌, ◌^◌, ◌<◌, ◌≤◌, min, IfNone, IfOk, IfSome, IsOk, OnSome};
 
 use crate::masks::{child_cover_mask, data_cover_mask};
 use crate::node::{Node, Steps, Visited, reach, visit};
@@ -40,7 +41,8 @@ pub(crate) fn root_view<'a, P: Place, T, L>(
     node: &'a Node<T>,
     steps: &mut Steps<L>,
 ) -> TrieRef<'a, P, T>
-    requires { (k : ℕ) → Good node_form P.Number.width k 0 node.now }
+    requires good { (k : ℕ) → Good node_form P.Number.width k 0 node.now }
+    requires full { (k : ℕ) → Full node_form k node.now }
     ensures usable { ⟦<TrieRef<'a, P, T> as TrieView<'a>>⟧.valid result }
     ensures place { (⟦<TrieRef<'a, P, T> as TrieView<'a>>⟧.told result).place ≡ record { bits = 0; len = 0 } }
     ensures pairs { (n : Net) (x : T) → (⟦<TrieRef<'a, P, T> as TrieView<'a>>⟧.told result).at n x ↔ Within (pairs P.Number.width (map_of node_form P.Number.width node.now)) n x }
@@ -162,12 +164,15 @@ impl<'a, P: Place, T> TrieView<'a> for TrieRef<'a, P, T> {
     ghost laws = { λ v ok. ref_laws node_form P.Number.width (record { bits = P.Number.number v.key; len = v.len }) v.data_bitmap v.child_bitmap v.node.node.now ok };
 }
 
-impl<'a, P: Place, T> CloneView for TrieRef<'a, P, T> {
-    fn clone_view(&self) -> Result<Self, NoMemory> {
+impl<'a, P: Place, T> CloneView<'a> for TrieRef<'a, P, T> {
+    fn clone_view(&self) -> Result<Self, NoMemory>
+        ensures usable { ⟦<TrieRef<'a, P, T> as TrieView<'a>>⟧.valid self.now → IfOk result (λ copy. ⟦<TrieRef<'a, P, T> as TrieView<'a>>⟧.valid copy) }
+        ensures same { IfOk result (λ copy. IsSame (⟦<TrieRef<'a, P, T> as TrieView<'a>>⟧.told self.now) (⟦<TrieRef<'a, P, T> as TrieView<'a>>⟧.told copy)) }
+        ensures frugal { IsOk result }
+        ensures equal { IfOk result (λ copy. copy ≡ self.now) }
+    {
         Ok(TrieRef {
-            node: Visited {
-                node: self.node.node,
-            },
+            node: self.node.again(),
             key: self.key,
             len: self.len,
             data_bitmap: self.data_bitmap,

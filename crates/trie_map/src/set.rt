@@ -5,7 +5,7 @@ ghost use Rattle.trie_map.specs.Walking.{CanWalk, IsFrugalWalk, ToCome};
 ghost use Rattle.trie_model.specs.Inside.{LiesIn, SomeIn};
 ghost use Rattle.trie_model.specs.Maps.{inserted, removed, value_at};
 ghost use Rattle.trie_model.specs.Nets.{Net};
-ghost use Rattle.trie_model.specs.Walks.{From, IsListOf, Within};
+ghost use Rattle.trie_model.specs.Walks.{From, IsListOf, Within, pairs_from};
 
 use crate::map::PrefixMap;
 use crate::node::Steps;
@@ -118,6 +118,7 @@ impl<P: Place> PrefixSet<P> {
         ensures usable { IfOk result (λ walk. CanWalk ⟦<TrieRef<'a, P, ()> as TrieView<'a>>⟧.valid ⟦<TrieRef<'a, P, ()> as TrieView<'a>>⟧.told P.Number.width walk) }
         ensures frugal { IfOk result (λ walk. IsFrugalWalk ⟦<TrieRef<'a, P, ()> as TrieView<'a>>⟧.told walk) }
         ensures rest { IfOk result (λ walk. (n : Net) (x : Unit {0}) → ToCome ⟦<TrieRef<'a, P, ()> as TrieView<'a>>⟧.told P.Number.width walk n x ↔ (Within self.now n x × From P.Number.width inclusive (P.net prefix.now) n)) }
+        ensures list { IfOk result (λ walk. IsListOf P.Number.width (ToCome ⟦<TrieRef<'a, P, ()> as TrieView<'a>>⟧.told P.Number.width walk) (pairs_from P.Number.width inclusive (P.net prefix.now) self.now)) }
     {
         self.map.iter_from(prefix, inclusive)
     }

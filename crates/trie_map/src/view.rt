@@ -4,7 +4,7 @@ ghost use Rattle.std.specs.Prelude.{◌≡◌, ℕ, ◌+◌, ◌≤◌, IsTrue, 
 ghost use Rattle.std.specs.Result.{OnOk};
 ghost use Rattle.std.specs.Int.{bit_at};
 ghost use Rattle.trie_model.specs.Nets.{Net, masked};
-ghost use Rattle.trie_model.specs.Views.{Told, IsView, TookData, TookChild, IsChild, CanMove, Moved, depth_at, data_net};
+ghost use Rattle.trie_model.specs.Views.{Told, IsSame, IsView, TookData, TookChild, IsChild, CanMove, Moved, depth_at, data_net};
 
 use crate::node::Steps;
 use crate::prefix::Place;
@@ -93,10 +93,12 @@ pub trait TrieView<'a>: Sized + Drop {
 }
 
 /// A view that can be had again.
-pub trait CloneView: Sized {
-    /// Another view of the same, or want of memory.
+pub trait CloneView<'a>: TrieView<'a> {
+    /// Another view of the same, or want of memory. A frugal view takes none.
     fn clone_view(&self) -> Result<Self, NoMemory>
-        ensures { IfOk result (λ copy. copy ≡ self.now) };
+        ensures usable { Self.valid self.now → IfOk result (λ copy. Self.valid copy) }
+        ensures same { IfOk result (λ copy. IsSame (Self.told self.now) (Self.told copy)) }
+        ensures frugal { IsTrue (Self.told self.now).frugal → IsOk result };
 }
 
 /// What can be seen as a view: a reference to a map or a set, and each view.

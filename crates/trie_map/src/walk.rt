@@ -1,12 +1,12 @@
 //! The walk over a view, which gives its pairs in the order of their prefixes.
 
-ghost use Rattle.std.specs.Prelude.{◌≡◌, ◌↔◌, ℕ, ◌+◌, ◌*◌, ◌/◌, ◌^◌, ◌<◌, ◌≤◌, ◌⊎◌, ◌++◌, ◌∷◌, [], length, vec_capacity, IfOk, IfSome, IsOk, IsTrue, List, true, cond};
-ghost use Rattle.std.specs.Result.{OnOk};
+ghost use Rattle.std.specs.Prelude.{◌≡◌, ◌↔◌, ℕ, ◌+◌, ◌*◌, ◌/◌, ◌^◌, ◌<◌, ◌≤◌, ◌⊎◌, ◌++◌, ◌∷◌, [], length, vec_capacity, IfNone, IfOk, IfSome, IsNone, IsOk, IsTrue, List, true, cond};
+ghost use Rattle.std.specs.Result.{OnErr, OnOk};
 ghost use Rattle.trie_map.specs.Moves.{StepOf, MoveOf, Lessens};
-ghost use Rattle.trie_map.specs.Walking.{CanWalk, IsFrugalWalk, NextOf, TakesFirst, ToCome};
+ghost use Rattle.trie_map.specs.Walking.{CanWalk, IsFrugalWalk, IsOver, NextOf, TakesFirst, ToCome, work_left};
 ghost use Rattle.trie_model.specs.Heap.{next_spot, order_key};
 ghost use Rattle.trie_model.specs.Nets.{Net, IsNet, covers};
-ghost use Rattle.trie_model.specs.Walks.{AllFrugal, From, IsListOf, Left, Roomy, WalkOk, rest};
+ghost use Rattle.trie_model.specs.Walks.{AllFrugal, From, IsListOf, Left, Roomy, WalkOk, rest, work};
 
 use crate::masks::{child_bit, data_bit, reconstruct_prefix};
 use crate::node::{Start, Steps};
@@ -129,6 +129,7 @@ fn advance<'a, V: TrieView<'a>, S>(
     ensures frugal { AllFrugal (λ l. V.told l.view) levels.old.items → IsOk result }
     ensures stays { AllFrugal (λ l. V.told l.view) levels.old.items → OnOk result (AllFrugal (λ l. V.told l.view) levels.new.items) }
     ensures less { IfOk result (λ m. Lessens (λ l. V.told l.view) (λ l. l.spot) V.P.Number.width levels.old.items levels.new.items m) }
+    ensures busy { OnErr result (0 < work V.P.Number.width (λ l. V.told l.view) (λ l. l.spot) levels.old.items) }
 {
     let Some(mut level) = levels.pop() else {
         return Ok(Move::End);
@@ -300,14 +301,18 @@ impl<'a, V: TrieView<'a>> ViewIter<V> {
     }
 
     /// The next pair: the first of the list of what is to come, or none where this list is empty. So a
-    /// whole walk gives the view's list in order, and ends. Its prefix has no host bits. After a refusal
-    /// nothing comes.
+    /// whole walk gives the view's list in order, and ends: each answer but None leaves less to do. Its
+    /// prefix has no host bits. After None and after a refusal the walk is over.
     pub fn next(&mut self) -> Option<Result<(V::P, V::T), NoMemory>>
         requires { CanWalk V.valid V.told V.P.Number.width self.old }
         ensures usable { CanWalk V.valid V.told V.P.Number.width self.new }
         ensures frugal { IsFrugalWalk V.told self.old → IfSome result (λ r. IsOk r) }
         ensures stays { IsFrugalWalk V.told self.old → IsFrugalWalk V.told self.new }
         ensures given { NextOf V.told V.item V.P.net V.P.raw V.P.Number.width self.old self.new result }
+        ensures ends { IfSome result (λ r. work_left V.told V.P.Number.width self.new < work_left V.told V.P.Number.width self.old) }
+        ensures last { IfNone result (IsOver V.told V.P.Number.width self.new) }
+        ensures refused { IfSome result (λ r. OnErr r (IsOver V.told V.P.Number.width self.new)) }
+        ensures over { IsOver V.told V.P.Number.width self.old → IsNone result }
         ensures list { (ps : List (Net × V.Item)) → IsListOf V.P.Number.width (ToCome V.told V.P.Number.width self.old) ps → TakesFirst V.told V.item V.P.net V.P.Number.width self.new ps result }
     {
         'moves: loop {

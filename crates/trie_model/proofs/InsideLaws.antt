@@ -6,7 +6,7 @@ use Rattle.std.proofs.lemmas.Bool.{le-leb, eq-eqb}
 use Rattle.std.proofs.Math.Nat.{mul-div_cancel}
 use Rattle.trie_model.specs.Nets.{Net, IsNet, covers}
 use Rattle.trie_model.specs.Heap.{bits_toward, data_bit_of, prefix_net, child_at}
-use Rattle.trie_model.specs.Views.{Told, IsView, depth_at, level_of, net_of_bit, data_net, child_net, CanMove}
+use Rattle.trie_model.specs.Views.{Told, HasBelow, IsView, depth_at, level_of, net_of_bit, data_net, child_net, CanMove}
 use Rattle.trie_model.specs.Tries.{slot_of, Form, Good, Full, RefOk, Narrowed, ref_at, ref_told}
 use Rattle.trie_model.specs.Puts.{HoldsAt, At}
 use Rattle.trie_model.specs.Walks.{IsListOf}
@@ -90,9 +90,9 @@ pub depth_low : (n : ℕ) → n + 1 ≤ depth_at n + 5
 depth_low n = omega arith
 
 -- a view of a full node has a pair where it has a bit
-pub has_pair : {N X : Type 0} (f : Form N X) (w k : ℕ) (place : Net) (marks kids : ℕ) (node : N) → RefOk f w place marks kids node → ((j : ℕ) → Full f j node) → 0 < marks + kids → w < place.len + k → (n : Net) × ((x : X) × ref_at f w place marks kids node n x)
-has_pair f w zero place marks kids node ok full some deep = absurd (let l = ok.place_ok.len_fits in let no : ⊥ = omega (arith, l, deep) in no)
-has_pair {N} {X} f w (suc k) place marks kids node ok full some deep = either
+pub has_pair : {N X : Type 0} (f : Form N X) (w k : ℕ) (place : Net) (marks kids : ℕ) (node : N) → RefOk f w place marks kids node → 0 < marks + kids → w < place.len + k → (n : Net) × ((x : X) × ref_at f w place marks kids node n x)
+has_pair f w zero place marks kids node ok some deep = absurd (let l = ok.place_ok.len_fits in let no : ⊥ = omega (arith, l, deep) in no)
+has_pair {N} {X} f w (suc k) place marks kids node ok some deep = either
     (λ e.
     let bit = some_bit kids 32 ok.kids_fit (omega (arith, e, some)) in
     let on = ok.kids_sub bit.0 bit.1 in
@@ -100,14 +100,26 @@ has_pair {N} {X} f w (suc k) place marks kids node ok full some deep = either
     let lt = slot-lt (f.kids node) bit.0 on in
     let child = has_at (f.below node) (slot_of (f.kids node) bit.0) (let e = here.below in omega (arith, e, lt)) in
     let view = ref_child f w place (child_net w place bit.0) marks kids bit.0 node child.0 ok bit.1 child.1 refl in
-    let below = full_child f node full bit.0 child.0 (on, child.1) in
+    let below = full_child f node ok.full bit.0 child.0 (on, child.1) in
     let low = depth_low place.len in
-    let pair = has_pair f w k (child_net w place bit.0) (f.marks child.0) (f.kids child.0) child.0 view.0 below.1 below.0 (omega (arith, low, deep)) in
+    let pair = has_pair f w k (child_net w place bit.0) (f.marks child.0) (f.kids child.0) child.0 view.0 below.0 (omega (arith, low, deep)) in
     (pair.0, (pair.1.0, ((view.1.at pair.0 pair.1.0).0 pair.1.1).0)))
     (λ ne.
     let bit = some_bit marks 31 ok.data_fit (omega (arith, ne)) in
     ((data_net w place bit.0), (ref_laws f w place marks kids node ok).told bit.0 (bit_below 31 marks bit.0 ok.data_fit bit.1) bit.1))
     (same_or marks 0)
+
+-- a pair lies below each child bit
+pub child_has : {N X : Type 0} (f : Form N X) (w : ℕ) (place : Net) (marks kids bit : ℕ) (node : N) → RefOk f w place marks kids node → bit_at kids bit ≡ 1 → HasBelow w (ref_told f w place marks kids node) bit
+child_has f w place marks kids bit node ok set =
+    let on = ok.kids_sub bit set in
+    let here = ref_node f w place marks kids node ok in
+    let lt = slot-lt (f.kids node) bit on in
+    let child = has_at (f.below node) (slot_of (f.kids node) bit) (let e = here.below in omega (arith, e, lt)) in
+    let view = ref_child f w place (child_net w place bit) marks kids bit node child.0 ok set child.1 refl in
+    let some = full_child f node ok.full bit child.0 (on, child.1) in
+    let pair = has_pair f w (w + 1) (child_net w place bit) (f.marks child.0) (f.kids child.0) child.0 view.0 some.0 (omega arith) in
+    (pair.0, (pair.1.0, (view.1.at pair.0 pair.1.0).0 pair.1.1))
 
 -- ---- the view of what lies in a prefix
 
@@ -130,7 +142,7 @@ whole : {N X : Type 0} (f : Form N X) (w : ℕ) (net : Net) (node : N) (dm cm : 
 whole f w net node dm cm cut =
     let low = depth_le net.len in
     let l = cut.net_ok.len_fits in
-    ref_whole f w (node_place w net) node (masked_net w (depth_at net.len) net.bits (omega (arith, low, l)) cut.net_ok.bits_fit) (depth_twice net.len) cut.good
+    ref_whole f w (node_place w net) node (masked_net w (depth_at net.len) net.bits (omega (arith, low, l)) cut.net_ok.bits_fit) (depth_twice net.len) cut.good cut.full
 
 can_cut : {N X : Type 0} (f : Form N X) (w : ℕ) (net : Net) (node : N) (dm cm : ℕ) → Cut f w net node dm cm → CanMove w (node_place w net) net
 can_cut f w net node dm cm cut = record {
@@ -165,7 +177,6 @@ cut_at {N} {X} f w net node dm cm cut n x =
 -- what a look for the node of a prefix found, and the view of the node's bits inside the prefix
 pub record Found {N X : Type 0} (f : Form N X) (w : ℕ) (net : Net) (root node : N) (marks kids : ℕ) : Type 0 where
   pub ok : RefOk f w net marks kids node
-  pub full : (k : ℕ) → Full f k node
   pub pairs : (n : Net) (x : X) → ref_at f w net marks kids node n x ↔ LiesIn w net (list_of f w root) n x
 
 depth_root : (len : ℕ) → depth_from 0 len ≡ depth_at len
@@ -175,7 +186,6 @@ pub found : {N X R : Type 0} (look : R → N) (f : Form N X) (w : ℕ) (net : Ne
 found {N} {X} look f w net root r m k dm cm ok reach e g inside below =
     subst (λ z. Found f w net root (look r) (bit_and z dm) (bit_and k cm)) (sym e) (subst (λ z. Found f w net root (look r) (bit_and (f.marks (look r)) dm) (bit_and z cm)) (sym g) (record {
       ok = cut_ok f w net (look r) dm cm cut;
-      full = reach.1;
       pairs = λ n x. (
         (λ h. let a = (cut_at f w net (look r) dm cm cut n x).0 h in ((is.same n x).1 (map_at f w root n x a.0 ((down n x a.0 a.1).1 a.2)), a.1)),
         (λ h. let a = at_map f w root n x ((is.same n x).0 h.0) in (cut_at f w net (look r) dm cm cut n x).1 (a.0, h.1, (down n x a.0 h.1).0 a.1)),
@@ -200,7 +210,7 @@ found {N} {X} look f w net root r m k dm cm ok reach e g inside below =
 -- a bit is left: some entry lies in the prefix
 pub found_some : {N X : Type 0} (f : Form N X) (w : ℕ) (net : Net) (root node : N) (marks kids : ℕ) → Found f w net root node marks kids → 0 < marks + kids → SomeIn w net (list_of f w root)
 found_some f w net root node marks kids h some =
-    let pair = has_pair f w (w + 1) net marks kids node h.ok h.full some (omega arith) in
+    let pair = has_pair f w (w + 1) net marks kids node h.ok some (omega arith) in
     (pair.0, (pair.1.0, (h.pairs pair.0 pair.1.0).0 pair.1.1))
 
 -- no bit is left: none does

@@ -2,6 +2,7 @@ pub mod CloneLaws
 pub mod CountLaws
 pub mod DownLaws
 pub mod FullLaws
+pub mod GatherLaws
 pub mod HeapLaws
 pub mod InsideLaws
 pub mod Levels

@@ -1,10 +1,10 @@
 -- A walk gives the list of what is left, pair by pair.
-use Rattle.std.proofs.Common.{◌≡◌, ◌∙◌, sym, ap, subst, refl, arith, List, [], ◌∷◌, inl, inr}
+use Rattle.std.proofs.Common.{◌≡◌, ◌∙◌, Bool, sym, ap, subst, refl, arith, List, [], ◌∷◌, inl, inr}
 use Rattle.std.specs.Prelude.{◌⊎◌, ◌↔◌, ℕ, Result, Ok, Err, IfOk}
 use Rattle.trie_model.specs.Nets.{Net}
 use Rattle.trie_model.specs.Heap.{order_key}
 use Rattle.trie_model.specs.Views.{Told, same_net}
-use Rattle.trie_model.specs.Walks.{Left, Gives, Within, Ascends, IsListOf, ListGoesOn}
+use Rattle.trie_model.specs.Walks.{Left, Gives, From, Within, Ascends, IsListOf, ListGoesOn, pairs_from}
 use Rattle.trie_model.proofs.Places.{elim-false, not_true}
 use Rattle.trie_model.proofs.TrieLaws.{same_net_is, same_back}
 use Rattle.trie_model.proofs.WalkLaws.{either}
@@ -13,6 +13,7 @@ use Rattle.trie_model.proofs.CountLaws.{pair_of, list_of_map}
 use Rattle.trie_model.specs.Tries.{Form}
 use Rattle.trie_model.specs.Maps.{map_of}
 use Rattle.trie_model.proofs.TrieMaps.{list_of, of_width}
+use Rattle.trie_model.proofs.GatherLaws.{listed_from}
 
 -- nothing is left, so the list is empty
 pub list_ends : {X : Type 0} (w : ℕ) (at : Net → X → Type 0) (ps : List (Net × X)) → ((n : Net) (x : X) → at n x → ⊥) → IsListOf w at ps → ps ≡ []
@@ -61,3 +62,11 @@ listed f w root at view ps e a b = record {
   ascends = subst (Ascends w) e (list_of_map w (map_of f w root) (of_width f w root)).ascends;
   same = λ n x. ((λ h. (a n x).1 ((b n x).1 h)), (λ h. (b n x).0 ((a n x).0 h)));
 }
+
+-- the same of a walk from a prefix on
+pub listed_on : {N X : Type 0} (f : Form N X) (w : ℕ) (root : N) (inclusive : Bool) (net : Net) (at view : Net → X → Type 0) (ps : List (Net × X)) → list_of f w root ≡ ps → ((n : Net) (x : X) → at n x ↔ (view n x × From w inclusive net n)) → ((n : Net) (x : X) → view n x ↔ Within ps n x) → IsListOf w at (pairs_from w inclusive net ps)
+listed_on f w root inclusive net at view ps e a b =
+    listed_from w inclusive net at ps (subst (Ascends w) e (list_of_map w (map_of f w root) (of_width f w root)).ascends) (λ n x. (
+      (λ h. let r = (a n x).0 h in ((b n x).0 r.0, r.1)),
+      (λ h. (a n x).1 ((b n x).1 h.0, h.1)),
+    ))

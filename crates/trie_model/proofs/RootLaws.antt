@@ -11,7 +11,7 @@ use Rattle.trie_model.specs.Views.{depth_at, level_of, net_of_bit, child_net, Is
 use Rattle.trie_model.proofs.Places.{bit_below}
 use Rattle.trie_model.specs.Heap.{prefix_net}
 use Rattle.trie_model.proofs.HeapLaws.{data_low}
-use Rattle.trie_model.specs.Tries.{slot_of, Form, Good, RefOk, ref_told}
+use Rattle.trie_model.specs.Tries.{slot_of, Form, Full, Good, RefOk, ref_told}
 use Rattle.trie_model.proofs.NodeLaws.{level_net, good_here}
 use Rattle.trie_model.proofs.TrieLaws.{data_inside, kid_inside, ref_child, same_place}
 
@@ -49,12 +49,13 @@ root_net w = record {
 }
 
 -- the whole of a node, as a view at the node's own place
-pub ref_whole : {N X : Type 0} (f : Form N X) (w : ℕ) (q : Net) (node : N) → IsNet w q → depth_at q.len ≡ q.len → ((k : ℕ) → Good f w k q.len node) → RefOk f w q (f.marks node) (f.kids node) node
-ref_whole f w q node ok e good =
+pub ref_whole : {N X : Type 0} (f : Form N X) (w : ℕ) (q : Net) (node : N) → IsNet w q → depth_at q.len ≡ q.len → ((k : ℕ) → Good f w k q.len node) → ((k : ℕ) → Full f k node) → RefOk f w q (f.marks node) (f.kids node) node
+ref_whole f w q node ok e good full =
     let here = good_here f w q.len node good in
     record {
       place_ok = ok;
       good = λ k. subst (λ d. Good f w k d node) (sym e) (good k);
+      full = full;
       data_fit = here.data_fit;
       kids_fit = here.kids_fit;
       data_sub = λ b h. h;
@@ -63,8 +64,8 @@ ref_whole f w q node ok e good =
       kids_in = λ b h. kid_inside w q b ok e (bit_below 32 (f.kids node) b here.kids_fit h) (here.deep b h);
     }
 
-pub root_ok : {N X : Type 0} (f : Form N X) (w : ℕ) (node : N) → ((k : ℕ) → Good f w k 0 node) → RefOk f w (record { bits = 0; len = 0 }) (f.marks node) (f.kids node) node
-root_ok f w node good = ref_whole f w (record { bits = 0; len = 0 }) node (root_net w) refl good
+pub root_ok : {N X : Type 0} (f : Form N X) (w : ℕ) (node : N) → ((k : ℕ) → Good f w k 0 node) → ((k : ℕ) → Full f k node) → RefOk f w (record { bits = 0; len = 0 }) (f.marks node) (f.kids node) node
+root_ok f w node good full = ref_whole f w (record { bits = 0; len = 0 }) node (root_net w) refl good full
 
 -- ---- the prefix of a data bit
 
@@ -95,7 +96,7 @@ ref_child_at {N} {X} f w place q marks kids bit m k node child child' ok set is 
     subst (λ y. P child' m y) (sym b) (subst (λ x. P child' x (f.kids child')) (sym a) (subst (λ z. P z (f.marks z) (f.kids z)) (sym g) (ref_child f w place q marks kids bit node child ok set is e)))
 
 -- the view of a whole trie that was visited
-pub root_ref : {N X : Type 0} (f : Form N X) (w bits m k : ℕ) (node node' : N) → ((j : ℕ) → Good f w j 0 node) → bits ≡ 0 → node' ≡ node → m ≡ f.marks node' → k ≡ f.kids node' → RefOk f w (record { bits = bits; len = 0 }) m k node'
-root_ref {N} f w bits m k node node' good z g a b =
+pub root_ref : {N X : Type 0} (f : Form N X) (w bits m k : ℕ) (node node' : N) → ((j : ℕ) → Good f w j 0 node) → ((j : ℕ) → Full f j node) → bits ≡ 0 → node' ≡ node → m ≡ f.marks node' → k ≡ f.kids node' → RefOk f w (record { bits = bits; len = 0 }) m k node'
+root_ref {N} f w bits m k node node' good full z g a b =
     let P : ℕ → N → ℕ → ℕ → Type 0 = λ u v x y. RefOk f w (record { bits = u; len = 0 }) x y v in
-    subst (λ u. P u node' m k) (sym z) (subst (λ y. P 0 node' m y) (sym b) (subst (λ x. P 0 node' x (f.kids node')) (sym a) (subst (λ v. P 0 v (f.marks v) (f.kids v)) (sym g) (root_ok f w node good))))
+    subst (λ u. P u node' m k) (sym z) (subst (λ y. P 0 node' m y) (sym b) (subst (λ x. P 0 node' x (f.kids node')) (sym a) (subst (λ v. P 0 v (f.marks v) (f.kids v)) (sym g) (root_ok f w node good full))))

@@ -1,5 +1,5 @@
 -- Laws of the views of nodes.
-use Rattle.std.proofs.Common.{◌≡◌, ◌≢◌, ℕ, ◌+◌, ◌-◌, ◌*◌, ◌/◌, ◌%◌, ◌^◌, ◌<◌, ◌≤◌, ◌∙◌, sym, ap, subst, refl, arith, Bool, true, false, cond, eqb, leb, min, bit_and, Some, lt_of_not-le}
+use Rattle.std.proofs.Common.{◌≡◌, ◌≢◌, ℕ, ◌+◌, ◌-◌, ◌*◌, ◌/◌, ◌%◌, ◌^◌, ◌<◌, ◌≤◌, ◌∙◌, sym, ap, subst, suc, refl, arith, Bool, true, false, cond, eqb, leb, min, bit_and, Some, lt_of_not-le}
 use Rattle.std.specs.Prelude.{slice_get}
 use Rattle.std.specs.Int.{bit_at, bit_not, w32}
 use Rattle.std.proofs.lemmas.Bool.{eqb-true, eq-eqb, le-leb}
@@ -12,7 +12,7 @@ use Rattle.trie_model.proofs.Places.{and_left, and_right, both_hold, not_true, e
 use Rattle.trie_model.specs.Heap.{bits_toward, data_bit_of, ltb, prefix_net, child_at}
 use Rattle.trie_model.proofs.HeapLaws.{data_low, net_back, bit_back, lt-ltb, ltb-lt}
 use Rattle.trie_model.proofs.Places.{depth_below}
-use Rattle.trie_model.specs.Tries.{Cleared, Narrowed, slot_of, Form, Among, NodeOk, Good, RefOk, ref_at, ref_told}
+use Rattle.trie_model.specs.Tries.{Cleared, Full, Narrowed, slot_of, Form, Among, NodeOk, Good, RefOk, ref_at, ref_told}
 use Rattle.trie_model.proofs.NodeLaws.{slot-lt, same_some, level_net, level_inside, data_is_net, child_is_net, covers_trans, covers_between, levels_zero, levels_less, levels_suc, levels_more, among_zero, among_item, among_child, child_among, among_map, among_one, good_here, good_child, has_at}
 
 -- ---- the laws of a view of a node
@@ -114,6 +114,7 @@ ref_ok_data f w place marks kids new bit node ok c =
     record {
       place_ok = ok.place_ok;
       good = ok.good;
+      full = ok.full;
       data_fit = let fit = ok.data_fit in let le = c.less in omega arith;
       kids_fit = ok.kids_fit;
       data_sub = λ b h. ok.data_sub b (clear_old bit marks new b c fit h).0;
@@ -176,6 +177,7 @@ pub ref_ok_child : {N X : Type 0} (f : Form N X) (w : ℕ) (place : Net) (marks 
 ref_ok_child f w place marks kids new bit node ok c = record {
   place_ok = ok.place_ok;
   good = ok.good;
+  full = ok.full;
   data_fit = ok.data_fit;
   kids_fit = let fit = ok.kids_fit in let le = c.less in omega arith;
   data_sub = ok.data_sub;
@@ -200,6 +202,7 @@ pub among_at : {N X : Type 0} (f : Form N X) (w marks kids d e k j : ℕ) (node 
 among_at f w marks kids d e k j node n x p q h = subst (λ i. Among f w marks kids i e node n x) q (subst (λ i. Among f w marks kids k i node n x) p h)
 
 pub ref_child_ok : {N X : Type 0} (f : Form N X) (w : ℕ) (place : Net) (marks kids bit : ℕ) (node child : N) → RefOk f w place marks kids node → bit_at kids bit ≡ 1 → slice_get (f.below node) (slot_of (f.kids node) bit) ≡ Some child → RefOk f w (child_net w place bit) (f.marks child) (f.kids child) child
+unfolding Full
 ref_child_ok f w place marks kids bit node child ok set is =
     let d : ℕ = depth_at place.len in
     let here = good_here f w d node ok.good in
@@ -211,6 +214,7 @@ ref_child_ok f w place marks kids bit node child ok set is =
     record {
       place_ok = net;
       good = λ k. subst (λ e. Good f w k e child) (sym (depth_below place.len)) (good k);
+      full = λ k. (ok.full (suc k) bit child (ok.kids_sub bit set) is).1;
       data_fit = there.data_fit;
       kids_fit = there.kids_fit;
       data_sub = λ b h. h;
@@ -324,6 +328,7 @@ ref_moved_ok f w place to marks kids marks' kids' node ok can nm nk =
     record {
       place_ok = can.fits;
       good = λ k. subst (λ e. Good f w k e node) (sym can.node) (ok.good k);
+      full = ok.full;
       data_fit = let fit = ok.data_fit in let le = nm.less in omega arith;
       kids_fit = let fit = ok.kids_fit in let le = nk.less in omega arith;
       data_sub = λ b h. ok.data_sub b (nm.only b h).0;

@@ -34,6 +34,10 @@ fall r r' p lt top =
     let le = mul-le-mul_right {m = 197 - r' + 1} {n = 197 - r} p (let q : 197 - r' + 1 ≤ 197 - r = omega arith in q) in
     omega (arith, e, le)
 
+pub work_none : {L X : Type 0} (w : ℕ) (tell : L → Told X) (spot : L → ℕ) (ls : List L) → ls ≡ [] → work w tell spot ls ≡ 0
+unfolding work
+work_none w tell spot ls e = ap (work w tell spot) e
+
 pub work_popped : {L X : Type 0} (w : ℕ) (tell : L → Told X) (spot : L → ℕ) (old ls : List L) (l : L) → old ≡ ls ++ l ∷ [] → work w tell spot ls < work w tell spot old
 unfolding level_work
 work_popped w tell spot old ls l e = let a = ap (work w tell spot) e ∙ work-append w tell spot ls l in omega (arith, a)

@@ -35,10 +35,20 @@ unfoldable pub Good : {N X : Type 0} → Form N X → ℕ → ℕ → ℕ → N 
 Good f w zero d node = ⊤
 Good {N} f w (suc k) d node = NodeOk f w d node × ((i : ℕ) (child : N) → slice_get (f.below node) i ≡ Some child → Good f w k (d + 5) child)
 
+-- each child has an item or a child of its own, in the node and k - 1 levels below it
+unfoldable pub Full : {N X : Type 0} → Form N X → ℕ → N → Type 0
+Full f zero node = ⊤
+Full {N} f (suc k) node = (b : ℕ) (c : N) → (bit_at (f.kids node) b ≡ 1) → (slice_get (f.below node) (slot_of (f.kids node) b) ≡ Some c) → (0 < f.marks c + f.kids c) × Full f k c
+
+-- the same, but that the child of this bit may have nothing
+abbrev pub FullBut : {N X : Type 0} → Form N X → ℕ → ℕ → N → Type 0
+FullBut {N} f bit k node = (b : ℕ) (c : N) → (bit_at (f.kids node) b ≡ 1) → (slice_get (f.below node) (slot_of (f.kids node) b) ≡ Some c) → ((b ≢ bit) → 0 < f.marks c + f.kids c) × Full f k c
+
 -- a view of a node: some of its bits, each of them inside the place
 pub record RefOk {N X : Type 0} (f : Form N X) (w : ℕ) (place : Net) (marks kids : ℕ) (node : N) : Type 0 where
   pub place_ok : IsNet w place
   pub good : (k : ℕ) → Good f w k (depth_at place.len) node
+  pub full : (k : ℕ) → Full f k node
   pub data_fit : marks < 2 ^ 31
   pub kids_fit : kids < 2 ^ 32
   pub data_sub : (bit : ℕ) → bit_at marks bit ≡ 1 → bit_at (f.marks node) bit ≡ 1
@@ -71,12 +81,3 @@ pub record Narrowed (old new : ℕ) (keeps : ℕ → Bool) : Type 0 where
   pub less : new ≤ old
   pub only : (b : ℕ) → bit_at new b ≡ 1 → (bit_at old b ≡ 1) × (keeps b ≡ true)
   pub keep : (b : ℕ) → bit_at old b ≡ 1 → keeps b ≡ true → bit_at new b ≡ 1
-
--- each child has an item or a child of its own, in the node and k - 1 levels below it
-unfoldable pub Full : {N X : Type 0} → Form N X → ℕ → N → Type 0
-Full f zero node = ⊤
-Full {N} f (suc k) node = (b : ℕ) (c : N) → (bit_at (f.kids node) b ≡ 1) → (slice_get (f.below node) (slot_of (f.kids node) b) ≡ Some c) → (0 < f.marks c + f.kids c) × Full f k c
-
--- the same, but that the child of this bit may have nothing
-abbrev pub FullBut : {N X : Type 0} → Form N X → ℕ → ℕ → N → Type 0
-FullBut {N} f bit k node = (b : ℕ) (c : N) → (bit_at (f.kids node) b ≡ 1) → (slice_get (f.below node) (slot_of (f.kids node) b) ≡ Some c) → ((b ≢ bit) → 0 < f.marks c + f.kids c) × Full f k c

@@ -43,6 +43,10 @@ pub record Told (X : Type 0) : Type 1 where
 abbrev pub Has : {X : Type 0} → Told X → Net → Type 0
 Has {X} t n = (x : X) × t.at n x
 
+-- some pair lies below the child of this bit
+abbrev pub HasBelow : {X : Type 0} → ℕ → Told X → ℕ → Type 0
+HasBelow {X} w t bit = (n : Net) × ((x : X) × (t.at n x × (covers w (child_net w t.place bit) n ≡ true)))
+
 -- the laws
 pub record IsView {X : Type 0} (w : ℕ) (t : Told X) : Type 0 where
   pub place_ok : IsNet w t.place
@@ -79,6 +83,14 @@ pub record IsChild {X : Type 0} (w bit : ℕ) (t u : Told X) : Type 0 where
   pub place : u.place ≡ child_net w t.place bit
   pub at : (n : Net) (x : X) → u.at n x ↔ (t.at n x × (covers w (child_net w t.place bit) n ≡ true))
   pub frugal : IsTrue t.frugal → IsTrue u.frugal
+
+-- another view of the same
+pub record IsSame {X : Type 0} (t u : Told X) : Type 0 where
+  pub place : u.place ≡ t.place
+  pub data_bits : u.data_bits ≡ t.data_bits
+  pub child_bits : u.child_bits ≡ t.child_bits
+  pub at : (n : Net) (x : X) → u.at n x ↔ t.at n x
+  pub frugal : u.frugal ≡ t.frugal
 
 -- a place in the same node, inside the place so far
 pub record CanMove (w : ℕ) (old new : Net) : Type 0 where

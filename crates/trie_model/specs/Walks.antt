@@ -3,7 +3,7 @@ use Rattle.std.specs.Prelude.{◌≡◌, ◌↔◌, ◌⊎◌, ⊤, zero, suc, �
 use Rattle.std.specs.Int.{bit_at}
 use Rattle.trie_model.specs.Nets.{Net}
 use Rattle.trie_model.specs.Views.{Told, IsView, depth_at, same_net}
-use Rattle.trie_model.specs.Heap.{rank_at, spot_of, order_key}
+use Rattle.trie_model.specs.Heap.{ltb, rank_at, spot_of, order_key}
 
 -- ---- what a stack has still to give
 
@@ -90,6 +90,11 @@ Ascends {X} w (p ∷ ps) = ((n : Net) (x : X) → Within ps n x → order_key w 
 pub record IsListOf {X : Type 0} (w : ℕ) (at : Net → X → Type 0) (ps : List (Net × X)) : Type 0 where
   pub ascends : Ascends w ps
   pub same : (n : Net) (x : X) → Within ps n x ↔ at n x
+
+-- the pairs of a list from a prefix on, or behind it
+unfoldable pub pairs_from : {X : Type 0} → ℕ → Bool → Net → List (Net × X) → List (Net × X)
+pairs_from w inclusive net [] = []
+pairs_from w inclusive net (p ∷ ps) = cond (ltb (order_key w net) (order_key w p.0 + cond inclusive 1 0)) (p ∷ pairs_from w inclusive net ps) (pairs_from w inclusive net ps)
 
 -- a list that begins with a pair and goes on with the list of a relation
 pub record ListGoesOn {X : Type 0} (w : ℕ) (at : Net → X → Type 0) (n : Net) (x : X) (ps qs : List (Net × X)) : Type 0 where

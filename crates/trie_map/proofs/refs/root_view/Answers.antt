@@ -6,7 +6,7 @@ use Rattle.trie_model.proofs.TrieMaps.{root_pairs, list_of}
 use Rattle.trie_map.proofs.refs.root_view.Goals as goal
 
 pub returns-clause-usable : goal.returns-clause-usable
-returns-clause-usable g c = root_ref node_form g.P.Number.Word.width (g.P.Number.Word.number c.zero.result) c.data_bitmap.result c.child_bitmap.result c.args.node.now c.visit-root.result.node.now c.requires c.zero.ensures c.visit-root.ensures.node c.data_bitmap.ensures c.child_bitmap.ensures
+returns-clause-usable g c = root_ref node_form g.P.Number.Word.width (g.P.Number.Word.number c.zero.result) c.data_bitmap.result c.child_bitmap.result c.args.node.now c.visit-root.result.node.now c.requires.good c.requires.full c.zero.ensures c.visit-root.ensures.node c.data_bitmap.ensures c.child_bitmap.ensures
 
 pub returns-clause-place : goal.returns-clause-place
 returns-clause-place g c = let f : ℕ → Net = λ b. record { bits = b; len = 0 } in ap f c.zero.ensures

@@ -51,14 +51,14 @@ pub returns-then-child_bitmap-eq0-clause-none : goal.returns-then-child_bitmap-e
 returns-then-child_bitmap-eq0-clause-none g c =
     let e : (record { bits = g.P.Number.Word.number c.number-key.result; len = c.length-len.result }) ≡ g.P.Place.net c.args.prefix.now = net_is (g.P.Place.net c.args.prefix.now) (g.P.Number.Word.number c.number-key.result) c.length-len.result c.number-key.ensures.bits c.length-len.ensures in
     let ok : IsNet g.P.Number.Word.width (record { bits = g.P.Number.Word.number c.number-key.result; len = c.length-len.result }) = subst (IsNet g.P.Number.Word.width) (sym e) c.number-key.ensures.prefix in
-    let h = found {R = Visited g.row.T.Denot} (λ r. r.node.now) node_form g.P.Number.Word.width (record { bits = g.P.Number.Word.number c.number-key.result; len = c.length-len.result }) c.args.node.now c.in-Some.node c.data_bitmap.result c.child_bitmap.result c.data_cover_mask.result c.child_cover_mask.result ok c.in-Some.ensures.node c.data_bitmap.ensures c.child_bitmap.ensures c.data_cover_mask.ensures.mask c.child_cover_mask.ensures in
+    let h = found {R = Visited g.row.T.Denot} (λ r. r.node.now) node_form g.P.Number.Word.width (record { bits = g.P.Number.Word.number c.number-key.result; len = c.length-len.result }) c.args.node.now c.in-Some.node c.data_bitmap.result c.child_bitmap.result c.data_cover_mask.result c.child_cover_mask.result ok c.in-Some.ensures.node c.data_bitmap.ensures c.child_bitmap.ensures c.data_cover_mask.ensures.mask c.child_cover_mask.ensures.mask in
     subst (λ z. SomeIn g.P.Number.Word.width z (list_of node_form g.P.Number.Word.width c.args.node.now) → ⊥) e (found_none node_form g.P.Number.Word.width _ c.args.node.now _ _ _ h c.if-data_bitmap-eq0.true c.if-child_bitmap-eq0.true)
 
 pub returns-clause-found : goal.returns-clause-found
 returns-clause-found g c =
     let e : (record { bits = g.P.Number.Word.number c.number-key.result; len = c.length-len.result }) ≡ g.P.Place.net c.args.prefix.now = net_is (g.P.Place.net c.args.prefix.now) (g.P.Number.Word.number c.number-key.result) c.length-len.result c.number-key.ensures.bits c.length-len.ensures in
     let ok : IsNet g.P.Number.Word.width (record { bits = g.P.Number.Word.number c.number-key.result; len = c.length-len.result }) = subst (IsNet g.P.Number.Word.width) (sym e) c.number-key.ensures.prefix in
-    let h = found {R = Visited g.row.T.Denot} (λ r. r.node.now) node_form g.P.Number.Word.width (record { bits = g.P.Number.Word.number c.number-key.result; len = c.length-len.result }) c.args.node.now c.in-Some.node c.data_bitmap.result c.child_bitmap.result c.data_cover_mask.result c.child_cover_mask.result ok c.in-Some.ensures.node c.data_bitmap.ensures c.child_bitmap.ensures c.data_cover_mask.ensures.mask c.child_cover_mask.ensures in
+    let h = found {R = Visited g.row.T.Denot} (λ r. r.node.now) node_form g.P.Number.Word.width (record { bits = g.P.Number.Word.number c.number-key.result; len = c.length-len.result }) c.args.node.now c.in-Some.node c.data_bitmap.result c.child_bitmap.result c.data_cover_mask.result c.child_cover_mask.result ok c.in-Some.ensures.node c.data_bitmap.ensures c.child_bitmap.ensures c.data_cover_mask.ensures.mask c.child_cover_mask.ensures.mask in
     subst (λ z. SomeIn g.P.Number.Word.width z (list_of node_form g.P.Number.Word.width c.args.node.now)) e (found_some node_form g.P.Number.Word.width _ c.args.node.now _ _ _ h
     (elim c.else-data_bitmap-eq0.branch [ else-data_bitmap-eq0-via-then-data_bitmap-eq0+else-child_bitmap-eq0 w ↦ some_right _ _ w.if-child_bitmap-eq0.false | else-data_bitmap-eq0-via-else-data_bitmap-eq0 w ↦ some_left _ _ w.if-data_bitmap-eq0.false ]))
 
@@ -66,7 +66,7 @@ pub returns-clause-usable : goal.returns-clause-usable
 returns-clause-usable g c =
     let e : (record { bits = g.P.Number.Word.number c.number-key.result; len = c.length-len.result }) ≡ g.P.Place.net c.args.prefix.now = net_is (g.P.Place.net c.args.prefix.now) (g.P.Number.Word.number c.number-key.result) c.length-len.result c.number-key.ensures.bits c.length-len.ensures in
     let ok : IsNet g.P.Number.Word.width (record { bits = g.P.Number.Word.number c.number-key.result; len = c.length-len.result }) = subst (IsNet g.P.Number.Word.width) (sym e) c.number-key.ensures.prefix in
-    let h = found {R = Visited g.row.T.Denot} (λ r. r.node.now) node_form g.P.Number.Word.width (record { bits = g.P.Number.Word.number c.number-key.result; len = c.length-len.result }) c.args.node.now c.in-Some.node c.data_bitmap.result c.child_bitmap.result c.data_cover_mask.result c.child_cover_mask.result ok c.in-Some.ensures.node c.data_bitmap.ensures c.child_bitmap.ensures c.data_cover_mask.ensures.mask c.child_cover_mask.ensures in
+    let h = found {R = Visited g.row.T.Denot} (λ r. r.node.now) node_form g.P.Number.Word.width (record { bits = g.P.Number.Word.number c.number-key.result; len = c.length-len.result }) c.args.node.now c.in-Some.node c.data_bitmap.result c.child_bitmap.result c.data_cover_mask.result c.child_cover_mask.result ok c.in-Some.ensures.node c.data_bitmap.ensures c.child_bitmap.ensures c.data_cover_mask.ensures.mask c.child_cover_mask.ensures.mask in
     h.ok
 
 pub returns-clause-place : goal.returns-clause-place
@@ -78,5 +78,5 @@ pub returns-clause-pairs : goal.returns-clause-pairs
 returns-clause-pairs g c =
     let e : (record { bits = g.P.Number.Word.number c.number-key.result; len = c.length-len.result }) ≡ g.P.Place.net c.args.prefix.now = net_is (g.P.Place.net c.args.prefix.now) (g.P.Number.Word.number c.number-key.result) c.length-len.result c.number-key.ensures.bits c.length-len.ensures in
     let ok : IsNet g.P.Number.Word.width (record { bits = g.P.Number.Word.number c.number-key.result; len = c.length-len.result }) = subst (IsNet g.P.Number.Word.width) (sym e) c.number-key.ensures.prefix in
-    let h = found {R = Visited g.row.T.Denot} (λ r. r.node.now) node_form g.P.Number.Word.width (record { bits = g.P.Number.Word.number c.number-key.result; len = c.length-len.result }) c.args.node.now c.in-Some.node c.data_bitmap.result c.child_bitmap.result c.data_cover_mask.result c.child_cover_mask.result ok c.in-Some.ensures.node c.data_bitmap.ensures c.child_bitmap.ensures c.data_cover_mask.ensures.mask c.child_cover_mask.ensures in
+    let h = found {R = Visited g.row.T.Denot} (λ r. r.node.now) node_form g.P.Number.Word.width (record { bits = g.P.Number.Word.number c.number-key.result; len = c.length-len.result }) c.args.node.now c.in-Some.node c.data_bitmap.result c.child_bitmap.result c.data_cover_mask.result c.child_cover_mask.result ok c.in-Some.ensures.node c.data_bitmap.ensures c.child_bitmap.ensures c.data_cover_mask.ensures.mask c.child_cover_mask.ensures.mask in
     subst (λ z. (n : Net) (x : g.row.T.Denot) → ref_at node_form g.P.Number.Word.width (record { bits = g.P.Number.Word.number c.number-key.result; len = c.length-len.result }) (bit_and c.data_bitmap.result c.data_cover_mask.result) (bit_and c.child_bitmap.result c.child_cover_mask.result) c.in-Some.node.node.now n x ↔ LiesIn g.P.Number.Word.width z (list_of node_form g.P.Number.Word.width c.args.node.now) n x) e h.pairs

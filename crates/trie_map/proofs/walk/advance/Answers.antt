@@ -3,13 +3,14 @@ use Rattle.trie_model.specs.Nets.{Net}
 use Rattle.trie_model.specs.Views.{Told, depth_at, net_of_bit, data_net, level_of}
 use Rattle.trie_model.proofs.WalkLaws.{nothing_left}
 use Rattle.trie_model.proofs.RestLaws.{rest_view, rest_ahead, rest_item, rest_child, rest_set, on_vacant, on_data, on_took}
-use Rattle.trie_model.specs.Walks.{Gives}
+use Rattle.trie_model.specs.Walks.{Gives, work}
 use Rattle.trie_model.proofs.Levels.{top_of, popped, went_on, gave, went_down}
-use Rattle.std.specs.Prelude.{vec_capacity, IsTrue}
+use Rattle.std.specs.Prelude.{vec_capacity, IsTrue, Result, Ok, Err}
+use Rattle.std.specs.Result.{OnErr}
 use Rattle.trie_model.proofs.Places.{elim-false}
 use Rattle.trie_model.proofs.TrieMaps.{none_counted}
 use Rattle.trie_model.proofs.RoomLaws.{below_top, room_on, room_for_child, room_down, room_none, frugal_split, frugal_push, frugal_none}
-use Rattle.trie_model.proofs.WorkLaws.{work_popped, work_on, work_down}
+use Rattle.trie_model.proofs.WorkLaws.{work_none, work_popped, work_on, work_down}
 use Rattle.trie_map.proofs.walk.advance.Goals as goal
 
 pub returns-then-spot-eq64-clause-usable : goal.returns-then-spot-eq64-clause-usable
@@ -173,3 +174,25 @@ returns-in-Child-clause-stays g c = λ all.
 
 pub returns-in_err-take-clause-frugal : goal.returns-in_err-take-clause-frugal
 returns-in_err-take-clause-frugal g c = λ all. absurd (elim-false (c.in_err-take.ensures.frugal (frugal_split (λ l. g.V.TrieView.told l.view) c.args.levels.now.items _ c.in-Some.level c.in-Some.ensures.items all).1))
+
+pub returns-in_default-clause-less : goal.returns-in_default-clause-less
+returns-in_default-clause-less g c =
+    let z = c.in_default.ensures.cases.1 in
+    let e : length c.pop.new.self.items ≡ 0 = search (rules, z) in
+    work_none g.V.P.Number.Word.width (λ l. g.V.TrieView.told l.view) (λ l. l.spot) c.pop.new.self.items (none_counted c.pop.new.self.items 0 e refl)
+
+pub returns-in-Item-clause-less : goal.returns-in-Item-clause-less
+returns-in-Item-clause-less g c =
+    let top = (top_of _ _ _ _ _ _ c.in-Some.level c.in-Some.ensures.items c.requires.usable) in
+    let step = rw c.in-Item.is at c.in_ok-take.ensures.step in
+    work_on g.V.P.Number.Word.width (λ l. g.V.TrieView.told l.view) (λ l. l.spot) c.args.levels.now.items _ _ c.in-Some.level _ c.in-Some.ensures.items c.put-in-Item.ensures.items top.first (below c.in-Some.level.spot top.last c.if-spot-eq64.false) c.next_spot.ensures.next step.3.place
+
+on_err : {T E : Type 0} {P : Type 0} (r : Result T E) → P → OnErr r P
+on_err (Ok x) h = tt
+on_err (Err e) h = h
+
+pub returns-in_err-take-clause-busy : goal.returns-in_err-take-clause-busy
+returns-in_err-take-clause-busy g c =
+    let less = work_popped g.V.P.Number.Word.width (λ l. g.V.TrieView.told l.view) (λ l. l.spot) c.args.levels.now.items _ c.in-Some.level c.in-Some.ensures.items in
+    let busy : 0 < work g.V.P.Number.Word.width (λ l. g.V.TrieView.told l.view) (λ l. l.spot) c.args.levels.now.items = omega (arith, less) in
+    on_err c.from_residual.result busy
