@@ -4,11 +4,12 @@ ghost use Rattle.trie_map.specs.Forms.{node_form};
 ghost use Rattle.trie_model.specs.Maps.{map_of, pairs};
 ghost use Rattle.trie_model.specs.Inside.{LiesIn, SomeIn};
 ghost use Rattle.trie_model.specs.Nets.{Net};
-ghost use Rattle.trie_model.specs.Views.{IsSame};
+ghost use Rattle.trie_model.specs.Views.{IsChild, IsSame, TookChild};
 ghost use Rattle.trie_model.specs.Walks.{Within};
 ghost use Rattle.trie_model.specs.Tries.{Cleared, Full, Good, RefOk, ref_told};
 ghost use Rattle.trie_model.proofs.TrieLaws.{ref_laws};
-ghost use Rattle.std.specs.Prelude.{◌≡◌, ◌↔◌, ℕ, ◌+◌, ◌-◌, ◌^◌, ◌<◌, ◌≤◌, min, IfNone, IfOk, IfSome, IsOk, OnSome};
+ghost use Rattle.std.specs.Int.{bit_at};
+ghost use Rattle.std.specs.Prelude.{◌≡◌, ◌↔◌, ℕ, ◌+◌, ◌-◌, ◌^◌, ◌<◌, ◌≤◌, min, IfNone, IfOk, IfSome, IsOk, IsTrue, OnOk, OnSome};
 
 use crate::masks::{child_cover_mask, data_cover_mask};
 use crate::node::{Node, Steps, Visited, reach, visit};
@@ -134,7 +135,17 @@ impl<'a, P: Place, T> TrieView<'a> for TrieRef<'a, P, T> {
         Ok(self.node.item(bit))
     }
 
-    fn get_child<S>(&mut self, bit: u32, steps: &mut Steps<S>) -> Result<Self, NoMemory> {
+    fn get_child<S>(&mut self, bit: u32, steps: &mut Steps<S>) -> Result<Self, NoMemory>
+        requires usable { ⟦<TrieRef<'a, P, T> as TrieView<'a>>⟧.valid self.old }
+        requires set { bit_at (⟦<TrieRef<'a, P, T> as TrieView<'a>>⟧.told self.old).child_bits bit ≡ 1 }
+        ensures child { IfOk result (λ c. ⟦<TrieRef<'a, P, T> as TrieView<'a>>⟧.valid c × IsChild P.Number.width bit (⟦<TrieRef<'a, P, T> as TrieView<'a>>⟧.told self.old) (⟦<TrieRef<'a, P, T> as TrieView<'a>>⟧.told c)) }
+        ensures usable { OnOk result (⟦<TrieRef<'a, P, T> as TrieView<'a>>⟧.valid self.new) }
+        ensures rest { OnOk result (TookChild P.Number.width bit (⟦<TrieRef<'a, P, T> as TrieView<'a>>⟧.told self.old) (⟦<TrieRef<'a, P, T> as TrieView<'a>>⟧.told self.new)) }
+        ensures forward { steps.old ≤ steps.new }
+        ensures cost { steps.new ≤ steps.old + 1 }
+        ensures frugal { IsTrue (⟦<TrieRef<'a, P, T> as TrieView<'a>>⟧.told self.old).frugal → IsOk result }
+        ensures counted { steps.new ≡ min (steps.old + 1) (2 ^ 64 - 1) }
+    {
         let _width = <P::Number as Word>::bits();
         let key = self.key.with_bits(self.len / 5 * 5, 5, bit);
         self.child_bitmap = without(self.child_bitmap, bit);

@@ -1,13 +1,14 @@
-//! Each public call once, and the places where nodes meet.
+//! Each public call once, the edges of nodes, and maps beside plain lists.
 
 ghost use Rattle.std.specs.Prelude.{◌≡◌, ◌≤◌, IsSome, None};
 ghost use Rattle.trie_model.specs.Maps.{inserted, value_at};
 
 use crate::{
-    Place, Prefix, PrefixMap, PrefixSet, Steps, TrieView, TryClone, child_bit, child_cover_mask,
-    child_cover_mask_for_bit, data_bit, data_cover_mask, data_cover_mask_for_bit, data_lpm_mask,
-    extend_repr, mask_from_prefix_len, reconstruct_prefix,
+    AsView, CloneView, Place, Prefix, PrefixMap, PrefixSet, Steps, TrieView, TryClone, child_bit,
+    child_cover_mask, child_cover_mask_for_bit, data_bit, data_cover_mask, data_cover_mask_for_bit,
+    data_lpm_mask, extend_repr, mask_from_prefix_len, reconstruct_prefix, walk_gives_the_list,
 };
+use std::process::Abort;
 use std::test::Fail;
 
 #[test]
@@ -44,43 +45,27 @@ fn prefixes_of_three_widths(rt: HostRuntime) -> Result<(), Fail> {
     Ok(())
 }
 
+/// The longest entry that contains a prefix.
+fn best<P: Place>(map: &PrefixMap<P, u32>, prefix: P) -> Option<(P, u32)>
+    requires { (P.net prefix).len ≤ P.Number.width }
+{
+    map.get_lpm(&prefix).map(|found| (found.0, *found.1))
+}
+
 #[test]
 fn longest_matches(rt: HostRuntime) -> Result<(), Fail> {
     let mut map: PrefixMap<(u32, u8), u32> = PrefixMap::new(rt.alloc());
-    assert_eq!(rt;
-        map.get_lpm(&(0x0A01_0203, 32))
-            .map(|found| (found.0, *found.1)),
-        None
-    );
+    assert_eq!(rt; best(&map, (0x0A01_0203, 32)), None);
     assert_eq!(rt; map.insert((0, 0), 1), Ok(None));
-    assert_eq!(rt; map.insert((0x0A01_0203, 32), 4), Ok(None));
-    assert_eq!(rt; map.insert((0x0A00_0000, 8), 2), Ok(None));
-    assert_eq!(rt; map.insert((0x0A01_0000, 16), 3), Ok(None));
-    assert_eq!(rt;
-        map.get_lpm(&(0x0A01_0203, 32))
-            .map(|found| (found.0, *found.1)),
-        Some(((0x0A01_0203, 32), 4))
-    );
-    assert_eq!(rt;
-        map.get_lpm(&(0x0A01_0204, 32))
-            .map(|found| (found.0, *found.1)),
-        Some(((0x0A01_0000, 16), 3))
-    );
-    assert_eq!(rt;
-        map.get_lpm(&(0x0A02_0304, 32))
-            .map(|found| (found.0, *found.1)),
-        Some(((0x0A00_0000, 8), 2))
-    );
-    assert_eq!(rt;
-        map.get_lpm(&(0x0A01_0203, 15))
-            .map(|found| (found.0, *found.1)),
-        Some(((0x0A00_0000, 8), 2))
-    );
-    assert_eq!(rt;
-        map.get_lpm(&(0xFFFF_FFFF, 0))
-            .map(|found| (found.0, *found.1)),
-        Some(((0, 0), 1))
-    );
+    assert_eq!(rt; map.insert((0xFFFF_FFFF, 32), 2), Ok(None));
+    assert_eq!(rt; best(&map, (0xFFFF_FFFF, 32)), Some(((0xFFFF_FFFF, 32), 2)));
+    assert_eq!(rt; best(&map, (0xFFFF_FFFE, 32)), Some(((0, 0), 1)));
+    assert_eq!(rt; map.insert((0x0A00_0000, 8), 3), Ok(None));
+    assert_eq!(rt; map.insert((0x0A01_0000, 16), 4), Ok(None));
+    assert_eq!(rt; best(&map, (0x0A01_0204, 32)), Some(((0x0A01_0000, 16), 4)));
+    assert_eq!(rt; best(&map, (0x0A02_0304, 32)), Some(((0x0A00_0000, 8), 3)));
+    assert_eq!(rt; best(&map, (0x0A01_0203, 15)), Some(((0x0A00_0000, 8), 3)));
+    assert_eq!(rt; best(&map, (0xFFFF_FFFF, 0)), Some(((0, 0), 1)));
     Ok(())
 }
 
@@ -88,44 +73,14 @@ fn longest_matches(rt: HostRuntime) -> Result<(), Fail> {
 fn longest_matches_of_128_bits(rt: HostRuntime) -> Result<(), Fail> {
     let mut map: PrefixMap<(u128, u8), u32> = PrefixMap::new(rt.alloc());
     assert_eq!(rt; map.insert((0, 0), 1), Ok(None));
-    assert_eq!(rt; map.insert((5, 128), 2), Ok(None));
-    assert_eq!(rt; map.insert((4, 127), 3), Ok(None));
+    assert_eq!(rt; map.insert((u128::MAX, 128), 2), Ok(None));
+    assert_eq!(rt; best(&map, (u128::MAX, 128)), Some(((u128::MAX, 128), 2)));
+    assert_eq!(rt; best(&map, (u128::MAX - 1, 128)), Some(((0, 0), 1)));
+    assert_eq!(rt; map.insert((u128::MAX, 127), 3), Ok(None));
     assert_eq!(rt;
-        map.get_lpm(&(5, 128)).map(|found| (found.0, *found.1)),
-        Some(((5, 128), 2))
+        best(&map, (u128::MAX - 1, 128)),
+        Some(((u128::MAX - 1, 127), 3))
     );
-    assert_eq!(rt;
-        map.get_lpm(&(4, 128)).map(|found| (found.0, *found.1)),
-        Some(((4, 127), 3))
-    );
-    assert_eq!(rt;
-        map.get_lpm(&(6, 128)).map(|found| (found.0, *found.1)),
-        Some(((0, 0), 1))
-    );
-    Ok(())
-}
-
-#[test]
-fn every_length(rt: HostRuntime) -> Result<(), Fail> {
-    let mut map: PrefixMap<(u32, u8), u8> = PrefixMap::new(rt.alloc());
-    for len in 0..33u8 {
-        assert_eq!(rt; map.insert((0xFFFF_FFFF, len), len), Ok(None));
-        assert_eq!(rt; map.insert((0xFFFF_FFFF, len), len), Ok(Some(len)));
-    }
-    assert_eq!(rt; map.len(), 33);
-    for len in 0..33u8 {
-        assert_eq!(rt; map.get(&(0xFFFF_FFFF, len)).copied(), Some(len));
-        assert_eq!(rt; map.contains_key(&(0x7FFF_FFFF, len)), len == 0);
-    }
-    for len in 0..33u8 {
-        assert_eq!(rt; map.remove(&(0xFFFF_FFFF, len)), Some(len));
-        assert_eq!(rt; map.remove(&(0xFFFF_FFFF, len)), None);
-        assert_eq!(rt;
-            map.get_lpm(&(0xFFFF_FFFF, len)).map(|found| *found.1),
-            None
-        );
-    }
-    assert!(rt; map.is_empty());
     Ok(())
 }
 
@@ -144,45 +99,28 @@ fn sets(rt: HostRuntime) -> Result<(), Fail> {
 
 #[test]
 fn walks_in_order(rt: HostRuntime) -> Result<(), Fail> {
+    let sorted: [((u32, u8), u32); 5] = [
+        ((0, 0), 1),
+        ((0x0A00_0000, 8), 2),
+        ((0x0A01_0000, 16), 3),
+        ((0x0A01_0203, 32), 4),
+        ((0xC0A8_0100, 24), 5),
+    ];
     let mut map: PrefixMap<(u32, u8), u32> = PrefixMap::new(rt.alloc());
-    assert_eq!(rt; map.insert((0xC0A8_0100, 24), 5), Ok(None));
-    assert_eq!(rt; map.insert((0, 0), 1), Ok(None));
-    assert_eq!(rt; map.insert((0x0A01_0000, 16), 3), Ok(None));
-    assert_eq!(rt; map.insert((0x0A00_0000, 8), 2), Ok(None));
-    assert_eq!(rt; map.insert((0x0A01_0203, 32), 4), Ok(None));
-    let Ok(mut walk) = map.iter() else {
-        return Err("no memory".into());
-    };
+    for at in [4usize, 0, 2, 1, 3] {
+        assert_eq!(rt; map.insert(sorted[at].0, sorted[at].1), Ok(None));
+    }
+    let mut walk = map.iter()?;
     assert_eq!(rt;
         walk.next()
             .map(|pair| pair.map(|found| (found.0, *found.1))),
-        Some(Ok(((0, 0), 1)))
+        Some(Ok(sorted[0]))
     );
-    assert_eq!(rt;
-        walk.next()
-            .map(|pair| pair.map(|found| (found.0, *found.1))),
-        Some(Ok(((0x0A00_0000, 8), 2)))
-    );
-    assert_eq!(rt;
-        walk.next()
-            .map(|pair| pair.map(|found| (found.0, *found.1))),
-        Some(Ok(((0x0A01_0000, 16), 3)))
-    );
-    assert_eq!(rt;
-        walk.next()
-            .map(|pair| pair.map(|found| (found.0, *found.1))),
-        Some(Ok(((0x0A01_0203, 32), 4)))
-    );
-    assert_eq!(rt;
-        walk.next()
-            .map(|pair| pair.map(|found| (found.0, *found.1))),
-        Some(Ok(((0xC0A8_0100, 24), 5)))
-    );
-    assert_eq!(rt;
-        walk.next()
-            .map(|pair| pair.map(|found| (found.0, *found.1))),
-        None
-    );
+    let pairs = walk_gives_the_list(rt.alloc(), AsView::view(&map))?;
+    assert_eq!(rt; pairs.len(), sorted.len());
+    for (pair, entry) in pairs.iter().zip(sorted.iter()) {
+        assert_eq!(rt; (pair.0, *pair.1), *entry);
+    }
     Ok(())
 }
 
@@ -290,33 +228,104 @@ fn longest_of(list: &[(u32, u32, u32)], number: u32) -> Option<u32> {
     longest.1
 }
 
+/// Sets or takes out the value of a prefix, in a map and in a plain list, and compares them.
+fn change(
+    rt: &impl Abort,
+    map: &mut PrefixMap<(u32, u8), u32>,
+    list: &mut Vec<(u32, u32, u32)>,
+    prefix: (u32, u8),
+    value: Option<u32>,
+) -> Result<(), Fail>
+    requires { prefix.1 ≤ 32 }
+{
+    let mask = mask_from_prefix_len::<u32>(prefix.1);
+    let bits = prefix.0 & mask;
+    let was = list
+        .iter()
+        .find(|entry| entry.0 == mask && entry.1 == bits)
+        .map(|entry| entry.2);
+    list.retain(|entry| entry.0 != mask || entry.1 != bits);
+    if let Some(item) = value {
+        assert_eq!(rt; map.insert(prefix, item), Ok(was));
+        list.push((mask, bits, item))?;
+    } else {
+        assert_eq!(rt; map.remove(&prefix), was);
+    }
+    assert_eq!(rt; map.len(), list.len());
+    assert_eq!(rt; map.get(&prefix).copied(), value);
+    assert_eq!(rt;
+        map.get_lpm(&(prefix.0, 32)).map(|found| *found.1),
+        longest_of(list, prefix.0)
+    );
+    Ok(())
+}
+
 #[test]
-fn like_a_plain_list(rt: HostRuntime) -> Result<(), Fail> {
+fn every_length_beside_a_plain_list(rt: HostRuntime) -> Result<(), Fail> {
+    let branches = [0xC0A8_0101u32, 0xC0A8_8101, 0xC0A8_0102, 0x3FFF_FFFF];
     let mut map: PrefixMap<(u32, u8), u32> = PrefixMap::new(rt.alloc());
     let mut list: Vec<(u32, u32, u32)> = Vec::new(rt.alloc());
-    let mut number = 1u32;
-    for round in 0..4u32 {
-        for len in 0..33u8 {
-            number = number.wrapping_mul(1_664_525).wrapping_add(1_013_904_223);
-            let few = number & 0x8C63_18C7;
-            let mask = mask_from_prefix_len::<u32>(len);
-            let bits = few & mask;
-            let was = list
-                .iter()
-                .find(|entry| entry.0 == mask && entry.1 == bits)
-                .map(|entry| entry.2);
-            list.retain(|entry| entry.0 != mask || entry.1 != bits);
-            if round == 2 {
-                assert_eq!(rt; map.remove(&(few, len)), was);
-            } else {
-                assert_eq!(rt; map.insert((few, len), round), Ok(was));
-                list.push((mask, bits, round))?;
+    // 132 prefixes are set and taken out, each time in an order that leaps.
+    for step in 0..264u32 {
+        let pick = step * 61 % 132;
+        let prefix = (branches[(pick % 4) as usize], (pick / 4) as u8);
+        let value = if step < 132 { Some(step) } else { None };
+        change(&rt, &mut map, &mut list, prefix, value)?;
+    }
+    assert!(rt; map.is_empty());
+    assert_eq!(rt; map.view().child_bitmap(), 0);
+    Ok(())
+}
+
+#[test]
+fn edges_of_nodes(rt: HostRuntime) -> Result<(), Fail> {
+    let mut map: PrefixMap<(u32, u8), u32> = PrefixMap::new(rt.alloc());
+    let mut list: Vec<(u32, u32, u32)> = Vec::new(rt.alloc());
+    for value in [Some(1), Some(2), None] {
+        for edge in 0..7u8 {
+            // The last bit above the edge, the first below it, and both lengths.
+            let last = 0xA5A5_A5A5u32 ^ (1u32 << (32 - 5 * edge as u32).min(31));
+            change(&rt, &mut map, &mut list, (last, 5 * edge), value)?;
+            let first = 0xA5A5_A5A5u32 ^ (1u32 << (31 - 5 * edge as u32));
+            change(&rt, &mut map, &mut list, (first, 5 * edge + 1), value)?;
+            change(&rt, &mut map, &mut list, (first, 5 * edge), value)?;
+        }
+    }
+    assert!(rt; map.is_empty());
+    Ok(())
+}
+
+#[test]
+fn the_last_entry_of_a_chain(rt: HostRuntime) -> Result<(), Fail> {
+    let mut set: PrefixSet<(u128, u8)> = PrefixSet::new(rt.alloc());
+    assert_eq!(rt; set.insert((7, 128)), Ok(true));
+    let view = set.view().clone_view()?;
+    assert_eq!(rt; view.child_bitmap(), 1);
+    assert!(rt; set.remove(&(7, 128)));
+    assert!(rt; set.view_at(&(0, 0)).is_none());
+    let view = set.view();
+    assert_eq!(rt; (view.data_bitmap(), view.child_bitmap()), (0, 0));
+    Ok(())
+}
+
+/// With one allocation refused at a time this test runs through each refusal of an insert.
+#[test]
+fn a_refused_insert_changes_nothing(rt: HostRuntime) -> Result<(), Fail> {
+    let mut map: PrefixMap<(u32, u8), u32> = PrefixMap::new(rt.alloc());
+    for len in [32u8, 0, 31, 16, 8, 24] {
+        let count = map.len();
+        let before = best(&map, (0xC0A8_0101, len));
+        match map.insert((0xC0A8_0101, len), len as u32) {
+            Ok(was) => {
+                assert_eq!(rt; was, None);
+                assert_eq!(rt; map.len(), count.wrapping_add(1));
             }
-            assert_eq!(rt; map.len(), list.len());
-            assert_eq!(rt;
-                map.get_lpm(&(few, 32)).map(|found| *found.1),
-                longest_of(&list, few)
-            );
+            Err((_, prefix, value)) => {
+                assert_eq!(rt; (prefix, value), ((0xC0A8_0101, len), len as u32));
+                assert_eq!(rt; best(&map, prefix), before);
+                assert!(rt; !map.contains_key(&prefix));
+                assert_eq!(rt; map.len(), count);
+            }
         }
     }
     Ok(())

@@ -1,4 +1,4 @@
-//! Copies for which memory may be wanting.
+//! Copies for which memory may be wanting. Numbers want none.
 
 ghost use Rattle.std.specs.Prelude.{◌≡◌, IfOk};
 
@@ -12,49 +12,65 @@ pub trait TryClone: Sized {
 }
 
 impl TryClone for () {
-    fn clone_with(&self) -> Result<Self, NoMemory> {
+    fn clone_with(&self) -> Result<Self, NoMemory>
+        ensures { result ≡ Ok self.now }
+    {
         Ok(())
     }
 }
 
 impl TryClone for bool {
-    fn clone_with(&self) -> Result<Self, NoMemory> {
+    fn clone_with(&self) -> Result<Self, NoMemory>
+        ensures { result ≡ Ok self.now }
+    {
         Ok(*self)
     }
 }
 
 impl TryClone for u8 {
-    fn clone_with(&self) -> Result<Self, NoMemory> {
+    fn clone_with(&self) -> Result<Self, NoMemory>
+        ensures { result ≡ Ok self.now }
+    {
         Ok(*self)
     }
 }
 
 impl TryClone for u16 {
-    fn clone_with(&self) -> Result<Self, NoMemory> {
+    fn clone_with(&self) -> Result<Self, NoMemory>
+        ensures { result ≡ Ok self.now }
+    {
         Ok(*self)
     }
 }
 
 impl TryClone for u32 {
-    fn clone_with(&self) -> Result<Self, NoMemory> {
+    fn clone_with(&self) -> Result<Self, NoMemory>
+        ensures { result ≡ Ok self.now }
+    {
         Ok(*self)
     }
 }
 
 impl TryClone for u64 {
-    fn clone_with(&self) -> Result<Self, NoMemory> {
+    fn clone_with(&self) -> Result<Self, NoMemory>
+        ensures { result ≡ Ok self.now }
+    {
         Ok(*self)
     }
 }
 
 impl TryClone for u128 {
-    fn clone_with(&self) -> Result<Self, NoMemory> {
+    fn clone_with(&self) -> Result<Self, NoMemory>
+        ensures { result ≡ Ok self.now }
+    {
         Ok(*self)
     }
 }
 
 impl TryClone for usize {
-    fn clone_with(&self) -> Result<Self, NoMemory> {
+    fn clone_with(&self) -> Result<Self, NoMemory>
+        ensures { result ≡ Ok self.now }
+    {
         Ok(*self)
     }
 }
