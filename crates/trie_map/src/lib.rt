@@ -1,4 +1,5 @@
-//! Maps and sets of prefixes, as tries of nodes of five levels, and the views of them.
+//! Maps and sets of prefixes, as tries of nodes of five levels, and the views of them, after the crate
+//! prefix-trie.
 #![tactic(auto)]
 
 mod laws;

@@ -18,9 +18,9 @@ use nl_core::NoMemory;
 use std::alloc::Global;
 use std::marker::{Model, PhantomData};
 
-/// A finite map from prefixes to values. Contracts see the list of its pairs, in the order of the
-/// prefixes: by bits, then by length. A call's cost grows with the prefix's length, and not with the
-/// number of entries.
+/// A finite map from prefixes to values, as in the crate prefix-trie. Contracts see the list of its
+/// pairs, in the order of the prefixes: by bits, then by length. The cost of an insert, a removal or a
+/// look-up grows with the prefix's length, and not with the number of entries.
 #[derive(Drop)]
 pub struct PrefixMap<P: Place, T> {
     root: Node<T>,

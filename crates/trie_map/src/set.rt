@@ -18,8 +18,8 @@ use nl_core::NoMemory;
 use std::alloc::Global;
 use std::marker::Model;
 
-/// A finite set of prefixes, as a map to nothing. Contracts see the list of its prefixes, each with
-/// `()`, in order.
+/// A finite set of prefixes, as in the crate prefix-trie: a map to nothing. Contracts see the list of
+/// its prefixes, each with `()`, in order.
 #[derive(Drop)]
 pub struct PrefixSet<P: Place> {
     map: PrefixMap<P, ()>,

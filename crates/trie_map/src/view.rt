@@ -31,7 +31,7 @@ pub trait TrieView<'a>: Sized + Drop {
     /// How many nodes a step down reads at most.
     ghost cost: { ℕ };
 
-    /// The depth of the place's node, a multiple of 5.
+    /// The depth of the place's node in bits, a multiple of 5.
     fn depth(&self) -> u32
         requires { valid self.now }
         ensures { result ≡ depth_at (told self.now).place.len };
@@ -41,7 +41,7 @@ pub trait TrieView<'a>: Sized + Drop {
         requires { valid self.now }
         ensures { Self.P.Number.number result ≡ (told self.now).place.bits };
 
-    /// The length of the place.
+    /// The length of the place in bits.
     fn prefix_len(&self) -> u32
         requires { valid self.now }
         ensures { result ≡ (told self.now).place.len };

@@ -1,4 +1,4 @@
-use Rattle.std.proofs.Common.{[], ap, map, subst, sym}
+use Rattle.std.proofs.Common.{ap, map, subst, sym}
 use Rattle.trie_model.specs.Walks.{rest}
 use Rattle.trie_model.proofs.GatherLaws.{Gathered, gathered_none, gathered_push, gathered_all}
 use Rattle.trie_map.specs.Walking.{ToCome}
