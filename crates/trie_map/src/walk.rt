@@ -236,6 +236,7 @@ fn enter<'a, V: TrieView<'a>, S>(
     ensures usable { OnOk result (WalkOk (λ l. V.valid l.view) (λ l. rest V.P.Number.width (V.told l.view) l.spot) (λ l. l.spot) V.P.Number.width levels.new.items) }
     ensures room { OnOk result (Roomy V.P.Number.width (λ l. V.told l.view) levels.new.items (vec_capacity levels.new)) }
     ensures left { OnOk result ((n : Net) (x : V.Item) → Left (λ l. rest V.P.Number.width (V.told l.view) l.spot) levels.new.items n x ↔ ((V.told view).at n x × From V.P.Number.width inclusive (record { bits = V.P.Number.number key; len = len }) n)) }
+    ensures frugal { IsTrue (V.told view).frugal → IsOk result }
     ensures stays { IsTrue (V.told view).frugal → OnOk result (AllFrugal (λ l. V.told l.view) levels.new.items) }
 {
     let place = view.key();
