@@ -9,7 +9,7 @@ use Rattle.session_model.specs.declared.outcome.RunFault.TheVariants as run
 use Rattle.session_model.specs.declared.transcript.Record.{Record}
 use Rattle.session_model.specs.Causes.{Stops, HasCause, IsUnfinished}
 use Rattle.session_model.specs.Reported.{report_of}
-use Rattle.session_model.specs.Transcript.{has_newline, lines_of}
+use Rattle.session_model.specs.Transcript.{lines_of}
 use Rattle.session_model.proofs.Places.{append-nil}
 use Rattle.mirror.specs.declared.progress.Progress.{Progress}
 use Rattle.mirror.specs.declared.runner.Runner.{Runner}

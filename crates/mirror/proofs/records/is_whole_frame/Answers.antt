@@ -1,5 +1,4 @@
-use Rattle.std.proofs.Common.{◌≡◌, ◌↔◌, IsTrue, nat_eq, ℕ, List, length, Option, Some, Result, Ok, Err, sym, ◌∙◌, rules, arith}
-use Rattle.std.proofs.lemmas.Grind.{common_steps}
+use Rattle.std.proofs.Common.{◌≡◌, ◌↔◌, IsTrue, nat_eq, ℕ, List, length, Some, Result, Ok, Err, sym, ◌∙◌, rules}
 use Rattle.nl_core.specs.declared.error.DecodeError.{DecodeError}
 use Rattle.nl_core.specs.declared.message.NetlinkMessage.{NetlinkMessage}
 use Rattle.nl_core.specs.Frames.{frame_at}

@@ -1,4 +1,4 @@
-use Rattle.std.proofs.Common.{rules, arith}
+use Rattle.std.proofs.Common.{arith}
 use Rattle.std.proofs.lemmas.Grind.{common_steps}
 use Rattle.mirror.proofs.request.read_frames.Goals as goal
 use Rattle.mirror.proofs.request.read_frames.Goals.{in-Some+in_ok-push+in_ok-push-2, in_default}
