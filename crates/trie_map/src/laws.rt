@@ -43,7 +43,8 @@ pub fn one_list_in_order<'a, V: TrieView<'a>>(view: &V)
     let _view = view;
 }
 
-/// The child bitmap of a view of a map or set has exactly the children with an entry inside the view.
+/// Below each child bit of a view of a map or set an entry lies inside the view. The laws of views say
+/// the converse.
 pub fn children_have_entries<'a, P: Place, T>(view: &TrieRef<'a, P, T>)
     requires { ⟦<TrieRef<'a, P, T> as TrieView<'a>>⟧.valid view.now }
     ensures { (bit : ℕ) → bit_at (⟦<TrieRef<'a, P, T> as TrieView<'a>>⟧.told view.now).child_bits bit ≡ 1 → HasBelow P.Number.width (⟦<TrieRef<'a, P, T> as TrieView<'a>>⟧.told view.now) bit }

@@ -4,7 +4,7 @@ ghost use Rattle.trie_map.specs.Forms.{node_form};
 ghost use Rattle.trie_model.specs.Maps.{map_of, pairs};
 ghost use Rattle.trie_model.specs.Inside.{LiesIn, SomeIn};
 ghost use Rattle.trie_model.specs.Nets.{Net};
-ghost use Rattle.trie_model.specs.Views.{IsChild, IsSame, TookChild};
+ghost use Rattle.trie_model.specs.Views.{IsChild, TookChild};
 ghost use Rattle.trie_model.specs.Walks.{Within};
 ghost use Rattle.trie_model.specs.Tries.{Cleared, Full, Good, RefOk, ref_told};
 ghost use Rattle.trie_model.proofs.TrieLaws.{ref_laws};
@@ -177,10 +177,8 @@ impl<'a, P: Place, T> TrieView<'a> for TrieRef<'a, P, T> {
 
 impl<'a, P: Place, T> CloneView<'a> for TrieRef<'a, P, T> {
     fn clone_view(&self) -> Result<Self, NoMemory>
-        ensures usable { ⟦<TrieRef<'a, P, T> as TrieView<'a>>⟧.valid self.now → IfOk result (λ copy. ⟦<TrieRef<'a, P, T> as TrieView<'a>>⟧.valid copy) }
-        ensures same { IfOk result (λ copy. IsSame (⟦<TrieRef<'a, P, T> as TrieView<'a>>⟧.told self.now) (⟦<TrieRef<'a, P, T> as TrieView<'a>>⟧.told copy)) }
-        ensures frugal { IsOk result }
         ensures equal { IfOk result (λ copy. copy ≡ self.now) }
+        ensures frugal { IsOk result }
     {
         Ok(TrieRef {
             node: self.node.again(),

@@ -4,7 +4,7 @@ ghost use Rattle.std.specs.Prelude.{◌≡◌, ℕ, ◌+◌, ◌≤◌, IsTrue, 
 ghost use Rattle.std.specs.Result.{OnOk};
 ghost use Rattle.std.specs.Int.{bit_at};
 ghost use Rattle.trie_model.specs.Nets.{Net, masked};
-ghost use Rattle.trie_model.specs.Views.{Told, IsSame, IsView, TookData, TookChild, IsChild, CanMove, Moved, depth_at, data_net};
+ghost use Rattle.trie_model.specs.Views.{Told, IsView, TookData, TookChild, IsChild, CanMove, Moved, depth_at, data_net};
 
 use crate::node::Steps;
 use crate::prefix::Place;
@@ -94,10 +94,9 @@ pub trait TrieView<'a>: Sized + Drop {
 
 /// A view that can be had again.
 pub trait CloneView<'a>: TrieView<'a> {
-    /// Another view of the same, or want of memory. A frugal view takes none.
+    /// An equal view, or want of memory. A frugal view takes none.
     fn clone_view(&self) -> Result<Self, NoMemory>
-        ensures usable { Self.valid self.now → IfOk result (λ copy. Self.valid copy) }
-        ensures same { IfOk result (λ copy. IsSame (Self.told self.now) (Self.told copy)) }
+        ensures equal { IfOk result (λ copy. copy ≡ self.now) }
         ensures frugal { IsTrue (Self.told self.now).frugal → IsOk result };
 }
 

@@ -84,14 +84,6 @@ pub record IsChild {X : Type 0} (w bit : ℕ) (t u : Told X) : Type 0 where
   pub at : (n : Net) (x : X) → u.at n x ↔ (t.at n x × (covers w (child_net w t.place bit) n ≡ true))
   pub frugal : IsTrue t.frugal → IsTrue u.frugal
 
--- another view of the same
-pub record IsSame {X : Type 0} (t u : Told X) : Type 0 where
-  pub place : u.place ≡ t.place
-  pub data_bits : u.data_bits ≡ t.data_bits
-  pub child_bits : u.child_bits ≡ t.child_bits
-  pub at : (n : Net) (x : X) → u.at n x ↔ t.at n x
-  pub frugal : u.frugal ≡ t.frugal
-
 -- a place in the same node, inside the place so far
 pub record CanMove (w : ℕ) (old new : Net) : Type 0 where
   pub fits : IsNet w new
