@@ -16,11 +16,11 @@ use Rattle.mirror.specs.declared.options.Choice.{Choice}
 use Rattle.mirror.specs.declared.options.Choice.TheVariants.{Limit, Peer, Table, Start, Noop, Done, Ack}
 use Rattle.mirror.specs.Options.{choice_word, IsInRange, kind_of, changed, has_kind, AreDistinct, SpellSettings, IsChoiceOf, HasTaken}
 
--- the number that a text is the decimal of
+-- The number that a text is the decimal of.
 value_of : (n : ℕ) → n < 2 ^ 64 → digits_value 10 (decimal n) ≡ n
 value_of n h = (decimal_is_IsNumeral n h).1
 
--- the option of a word, by the first letter
+-- The option of a word, by the first letter.
 abbrev by_letter : ℕ → List ℕ → Choice
 by_letter letter word =
     cond (letter == 108) (Limit (digits_value 10 (drop 6 word)))
@@ -41,17 +41,18 @@ option_of-choice_word Noop h = refl
 option_of-choice_word Done h = refl
 option_of-choice_word Ack h = refl
 
--- the options of words are those that were spelled
+-- The options of words are those that were spelled.
 pub options_of_words : (choices : List Choice) → AllByRecursion IsInRange choices → map option_of (map choice_word choices) ≡ choices
 options_of_words [] h = refl
 options_of_words (choice ∷ choices) h =
     ap (λ c. c ∷ map option_of (map choice_word choices)) (option_of-choice_word choice h.0) ∙ ap (λ cs. choice ∷ cs) (options_of_words choices h.1)
 
--- words spell one list of options
-pub same_options : (choices others : List Choice) → AllByRecursion IsInRange choices → AllByRecursion IsInRange others → map choice_word choices ≡ map choice_word others → choices ≡ others
+-- Words spell one list of options.
+pub same_options : (choices others : List Choice) → AllByRecursion IsInRange choices → AllByRecursion IsInRange others
+    → map choice_word choices ≡ map choice_word others → choices ≡ others
 same_options choices others h k e = sym (options_of_words choices h) ∙ ap (map option_of) e ∙ options_of_words others k
 
--- words spell at most one settings
+-- Words spell at most one settings.
 pub same_settings : (words : List (List ℕ)) (s t : Settings) → SpellSettings words s → SpellSettings words t → s ≡ t
 same_settings words s t a b =
     let same : a.choices ≡ b.choices = same_options a.choices b.choices a.in_range b.in_range (ap (drop 1) (sym a.spelled ∙ b.spelled)) in
@@ -59,7 +60,8 @@ same_settings words s t a b =
 
 -- ---- one option more
 
-has_kind-more : (kind : ℕ) (choices : List Choice) (choice : Choice) → has_kind kind (choices ++ choice ∷ []) ≡ (has_kind kind choices || ((kind_of choice == kind) || false))
+has_kind-more : (kind : ℕ) (choices : List Choice) (choice : Choice)
+    → has_kind kind (choices ++ choice ∷ []) ≡ (has_kind kind choices || ((kind_of choice == kind) || false))
 has_kind-more kind choices choice = list_any-append (λ (c : Choice). kind_of c == kind) choices (choice ∷ [])
 
 or_false : (b : Bool) → (b || false) ≡ b
@@ -79,17 +81,20 @@ eqb-swap m n = by (m == n) (n == m) refl refl
     by true false x y = absurd (let e : n ≡ m = sym (eqb-true m n x) in let z : (n == m) ≡ true = eq-eqb n m e in let w : true ≡ false = sym z ∙ y in cc)
     by false true x y = absurd (let e : m ≡ n = sym (eqb-true n m y) in let z : (m == n) ≡ true = eq-eqb m n e in let w : true ≡ false = sym z ∙ x in cc)
 
-distinct_more : (choices : List Choice) (choice : Choice) → AreDistinct choices → has_kind (kind_of choice) choices ≡ false → AreDistinct (choices ++ choice ∷ [])
+distinct_more : (choices : List Choice) (choice : Choice) → AreDistinct choices → has_kind (kind_of choice) choices ≡ false
+    → AreDistinct (choices ++ choice ∷ [])
 distinct_more [] choice a none = (refl, tt)
 distinct_more (first ∷ choices) choice a none =
     let parts = or_parts (kind_of first == kind_of choice) (has_kind (kind_of choice) choices) none in
     let other : (kind_of choice == kind_of first) ≡ false = eqb-swap (kind_of choice) (kind_of first) ∙ parts.0 in (
-      has_kind-more (kind_of first) choices choice ∙ ap (λ b. b || ((kind_of choice == kind_of first) || false)) a.0 ∙ ap (λ b. false || (b || false)) other,
+      has_kind-more (kind_of first) choices choice ∙ ap (λ b. b || ((kind_of choice == kind_of first) || false)) a.0
+          ∙ ap (λ b. false || (b || false)) other,
       distinct_more choices choice a.1 parts.1,
     )
 
--- in different options none of those before one is of its setting
-distinct_before : (choices : List Choice) (choice : Choice) (more : List Choice) → AreDistinct (choices ++ choice ∷ more) → has_kind (kind_of choice) choices ≡ false
+-- In different options none of those before one is of its setting.
+distinct_before : (choices : List Choice) (choice : Choice) (more : List Choice) → AreDistinct (choices ++ choice ∷ more)
+    → has_kind (kind_of choice) choices ≡ false
 distinct_before [] choice more a = refl
 distinct_before (first ∷ choices) choice more a =
     let apart = list_any-append (λ (c : Choice). kind_of c == kind_of first) choices (choice ∷ more) in
@@ -101,7 +106,9 @@ or_true : (b : Bool) → (b || true) ≡ true
 or_true true = refl
 or_true false = refl
 
-pub taken_more : (choices : List Choice) (choice : Choice) (settings after : Settings) (taken : List Bool) (k : ℕ) → k ≡ kind_of choice → k < length taken → after ≡ changed settings choice
+-- One option more, of a setting that has none, is taken.
+pub taken_more : (choices : List Choice) (choice : Choice) (settings after : Settings) (taken : List Bool) (k : ℕ)
+    → k ≡ kind_of choice → k < length taken → after ≡ changed settings choice
     → get_or taken k false ≡ false → HasTaken choices settings taken → HasTaken (choices ++ choice ∷ []) after (set taken k true)
 taken_more choices choice settings after taken k is small change free h = record {
   distinct = distinct_more choices choice h.distinct (sym (h.marked (kind_of choice)) ∙ ap (λ n. get_or taken n false) (sym is) ∙ free);
@@ -127,19 +134,21 @@ pub record SpellsSome (words : List (List ℕ)) (settings : Settings) (taken : L
   pub state : HasTaken choices settings taken
 
 module _ {X : Type 0} (f : X → List ℕ) (xs : List X) where
-  pub none_yet : (settings : Settings) (taken : List Bool) → HasTaken [] settings taken → SpellsSome (map f (take 0 xs)) settings taken
-  none_yet settings taken h = record { choices = []; spelled = refl; in_range = tt; state = h }
-
-  all_more : (choices : List Choice) (choice : Choice) → AllByRecursion IsInRange choices → IsInRange choice → AllByRecursion IsInRange (choices ++ choice ∷ [])
+  all_more : (choices : List Choice) (choice : Choice) → AllByRecursion IsInRange choices → IsInRange choice
+      → AllByRecursion IsInRange (choices ++ choice ∷ [])
   all_more [] choice a h = (h, tt)
   all_more (c ∷ choices) choice a h = (a.0, all_more choices choice a.1 h)
 
-  map_words-more : (choices : List Choice) (choice : Choice) → map choice_word (choices ++ choice ∷ []) ≡ map choice_word choices ++ choice_word choice ∷ []
+  map_words-more : (choices : List Choice) (choice : Choice)
+      → map choice_word (choices ++ choice ∷ []) ≡ map choice_word choices ++ choice_word choice ∷ []
   map_words-more [] choice = refl
   map_words-more (c ∷ choices) choice = ap (λ ws. choice_word c ∷ ws) (map_words-more choices choice)
 
-  pub one_more : (i : ℕ) (x : X) (choice : Choice) (s t : Settings) (taken marked : List Bool) → i < length xs → x ≡ get_or xs i x → SpellsSome (map f (take i xs)) s taken
-      → IsInRange choice → f x ≡ choice_word choice → ((choices : List Choice) → HasTaken choices s taken → HasTaken (choices ++ choice ∷ []) t marked)
+  -- The next word spells one option more.
+  pub one_more : (i : ℕ) (x : X) (choice : Choice) (s t : Settings) (taken marked : List Bool) → i < length xs
+      → x ≡ get_or xs i x → SpellsSome (map f (take i xs)) s taken
+      → IsInRange choice → f x ≡ choice_word choice
+      → ((choices : List Choice) → HasTaken choices s taken → HasTaken (choices ++ choice ∷ []) t marked)
       → SpellsSome (map f (take (i + 1) xs)) t marked
   one_more i x choice s t taken marked inside at some range is step = record {
     choices = some.choices ++ choice ∷ [];
@@ -149,7 +158,9 @@ module _ {X : Type 0} (f : X → List ℕ) (xs : List X) where
     state = step some.choices some.state;
   }
 
-  pub all_spelled : (words : List (List ℕ)) (i : ℕ) (s : Settings) (taken : List Bool) → words ≡ codes "run" ∷ map f xs → length xs ≤ i → SpellsSome (map f (take i xs)) s taken → SpellSettings words s
+  -- After the last word, the words spell the settings of their options.
+  pub all_spelled : (words : List (List ℕ)) (i : ℕ) (s : Settings) (taken : List Bool) → words ≡ codes "run" ∷ map f xs
+      → length xs ≤ i → SpellsSome (map f (take i xs)) s taken → SpellSettings words s
   all_spelled words i s taken is end some = record {
     choices = some.choices;
     spelled = is ∙ ap (λ ys. codes "run" ∷ map f ys) (sym (take_all i xs end)) ∙ ap (λ ws. codes "run" ∷ ws) some.spelled;
@@ -158,13 +169,15 @@ module _ {X : Type 0} (f : X → List ℕ) (xs : List X) where
     usual_else = some.state.settings_are;
   }
 
-  word_at : (choices : List Choice) (i : ℕ) (d : List ℕ) → i < length choices → AllByRecursion IsInRange choices → (choice : Choice) × (IsInRange choice × (get_or (map choice_word choices) i d ≡ choice_word choice))
+  word_at : (choices : List Choice) (i : ℕ) (d : List ℕ) → i < length choices → AllByRecursion IsInRange choices
+      → (choice : Choice) × (IsInRange choice × (get_or (map choice_word choices) i d ≡ choice_word choice))
   word_at [] i d h a = absurd (omega (arith, h))
   word_at (c ∷ choices) zero d h a = (c, (a.0, refl))
   word_at (c ∷ choices) (suc i) d h a = word_at choices i d (omega (arith, h)) a.1
 
-  -- a word that is of no option, among those behind the first
-  pub no_option : (words : List (List ℕ)) (first : List ℕ) (i : ℕ) (x : X) → words ≡ first ∷ map f xs → i < length xs → x ≡ get_or xs i x → IsChoiceOf (f x) None
+  -- A word that is of no option, among those after the first.
+  pub no_option : (words : List (List ℕ)) (first : List ℕ) (i : ℕ) (x : X) → words ≡ first ∷ map f xs → i < length xs
+      → x ≡ get_or xs i x → IsChoiceOf (f x) None
       → (s : Settings) → SpellSettings words s → ⊥
   no_option words first i x is inside at none s spell =
       let same : map f xs ≡ map choice_word spell.choices = ap (drop 1) (sym is ∙ spell.spelled) in
@@ -172,13 +185,16 @@ module _ {X : Type 0} (f : X → List ℕ) (xs : List X) where
       let w = word_at spell.choices i (f x) (omega (arith, count, inside)) spell.in_range in
       none w.0 w.1.0 (ap f at ∙ sym (get_or-map f xs i x (f x) inside) ∙ ap (λ ws. get_or ws i (f x)) same ∙ w.1.1)
 
-  -- a second option of a setting
-  pub repeated : (words : List (List ℕ)) (first : List ℕ) (i : ℕ) (x : X) (choice : Choice) (s : Settings) (taken : List Bool) → words ≡ first ∷ map f xs → i < length xs → x ≡ get_or xs i x
-      → SpellsSome (map f (take i xs)) s taken → IsInRange choice → f x ≡ choice_word choice → ((choices : List Choice) → HasTaken choices s taken → has_kind (kind_of choice) choices ≡ true)
+  -- A second option of a setting.
+  pub repeated : (words : List (List ℕ)) (first : List ℕ) (i : ℕ) (x : X) (choice : Choice) (s : Settings)
+      (taken : List Bool) → words ≡ first ∷ map f xs → i < length xs → x ≡ get_or xs i x
+      → SpellsSome (map f (take i xs)) s taken → IsInRange choice → f x ≡ choice_word choice
+      → ((choices : List Choice) → HasTaken choices s taken → has_kind (kind_of choice) choices ≡ true)
       → (t : Settings) → SpellSettings words t → ⊥
   repeated words first i x choice s taken is inside at some range word twice t spell =
       let same : map f xs ≡ map choice_word spell.choices = ap (drop 1) (sym is ∙ spell.spelled) in
-      let apart : xs ≡ take i xs ++ x ∷ drop (suc i) xs = sym (take-append-drop i xs) ∙ ap (λ ys. take i xs ++ ys) (drop-cons xs i x inside) ∙ ap (λ y. take i xs ++ y ∷ drop (suc i) xs) (sym at) in
+      let apart : xs ≡ take i xs ++ x ∷ drop (suc i) xs = sym (take-append-drop i xs)
+      ∙ ap (λ ys. take i xs ++ ys) (drop-cons xs i x inside) ∙ ap (λ y. take i xs ++ y ∷ drop (suc i) xs) (sym at) in
       let front : map option_of (map f (take i xs)) ≡ some.choices = ap (map option_of) some.spelled ∙ options_of_words some.choices some.in_range in
       let here : option_of (f x) ≡ choice = ap option_of word ∙ option_of-choice_word choice range in
       let all : spell.choices ≡ some.choices ++ choice ∷ map option_of (map f (drop (suc i) xs)) =
@@ -189,9 +205,3 @@ module _ {X : Type 0} (f : X → List ℕ) (xs : List X) where
       let none = distinct_before some.choices choice (map option_of (map f (drop (suc i) xs))) (subst AreDistinct all spell.distinct) in
       let clash : true ≡ false = sym (twice some.choices some.state) ∙ none in
       cc
-
-pub no_words : (words : List (List ℕ)) → words ≡ [] → (s : Settings) → SpellSettings words s → ⊥
-no_words words is s spell = let e : [] ≡ codes "run" ∷ map choice_word spell.choices = sym is ∙ spell.spelled in cc
-
-pub not_run : (words : List (List ℕ)) (first : List ℕ) (more : List (List ℕ)) → words ≡ first ∷ more → first ≢ codes "run" → (s : Settings) → SpellSettings words s → ⊥
-not_run words first more is other s spell = other (let e : first ∷ more ≡ codes "run" ∷ map choice_word spell.choices = sym is ∙ spell.spelled in cc)

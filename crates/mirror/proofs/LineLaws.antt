@@ -1,55 +1,13 @@
--- Which lines are no record that is taken.
-use Rattle.std.proofs.Common.{◌≡◌, ◌+◌, ◌*◌, ◌≤◌, List, [], ◌∷◌, ◌++◌, ℕ, length, map, codes, flat_map, refl, sym, ◌∙◌, subst, arith}
+-- How long a line is.
+use Rattle.std.proofs.Common.{◌≡◌, ◌+◌, ◌*◌, ◌≤◌, List, [], ◌∷◌, ◌++◌, ℕ, length, map, codes, flat_map, refl, arith}
 use Rattle.std.specs.Fmt.{decimal}
 use Rattle.std.proofs.lemmas.List.{length-append}
-use Rattle.std.specs.List.{AllByRecursion, join_with_byte}
-use Rattle.session_model.specs.declared.address.SocketAddr.{SocketAddr}
-use Rattle.session_model.specs.declared.transcript.BatchFrame.{BatchFrame}
+use Rattle.std.specs.List.{join_with_byte}
 use Rattle.session_model.specs.declared.transcript.Record.{Record}
 use Rattle.session_model.specs.declared.transcript.Record.TheVariants.{Recv, Overrun, Close, Batch}
-use Rattle.session_model.specs.Causes.{IsNoRecord}
-use Rattle.session_model.specs.Transcript.{AreBytes, IsWholeFrame, frame_word, record_line, record_words}
+use Rattle.session_model.specs.Transcript.{frame_word, record_line, record_words}
 use Rattle.session_model.specs.Lines.{hex_byte, hex_word}
-use Rattle.transcript_lines.specs.Line.{IsSpelled, IsNoLine, SpellingIsInjective}
-use Rattle.mirror.specs.Format.{IsEntry, IsFrameRead, format}
-use Rattle.mirror.specs.Steps.{weight}
-
--- A record is one that a line can spell.
-pub spelled : (r : Record) → IsEntry r → IsSpelled r
-spelled (Recv source bytes) h = h
-spelled Overrun h = tt
-spelled Close h = tt
-spelled (Batch to frames) h = (h.0, frames_spelled frames h.1)
-  where
-    frames_spelled : (fs : List BatchFrame) → AllByRecursion (λ (f : BatchFrame). IsWholeFrame format f.bytes) fs → AllByRecursion (λ (f : BatchFrame). AreBytes f.bytes) fs
-    frames_spelled [] k = tt
-    frames_spelled (f ∷ fs) k = (k.0.each, frames_spelled fs k.1)
-
--- Where each frame of what a line spells can be read, it is a record.
-pub is_entry : (to : SocketAddr) (frames : List BatchFrame) → IsSpelled (Batch to frames) → AllByRecursion (λ (f : BatchFrame). IsFrameRead f.bytes) frames → IsEntry (Batch to frames)
-is_entry to frames h k = (h.0, all frames h.1 k)
-  where
-    all : (fs : List BatchFrame) → AllByRecursion (λ (f : BatchFrame). AreBytes f.bytes) fs → AllByRecursion (λ (f : BatchFrame). IsFrameRead f.bytes) fs → AllByRecursion (λ (f : BatchFrame). IsWholeFrame format f.bytes) fs
-    all [] a b = tt
-    all (f ∷ fs) a b = (record { each = a.0; frame = b.0.frame; readable = b.0.readable }, all fs a.1 b.1)
-
-pub entry_read : (to : SocketAddr) (frames : List BatchFrame) → IsEntry (Batch to frames) → AllByRecursion (λ (f : BatchFrame). IsFrameRead f.bytes) frames
-entry_read to frames h = all frames h.1
-  where
-    all : (fs : List BatchFrame) → AllByRecursion (λ (f : BatchFrame). IsWholeFrame format f.bytes) fs → AllByRecursion (λ (f : BatchFrame). IsFrameRead f.bytes) fs
-    all [] k = tt
-    all (f ∷ fs) k = (record { frame = k.0.frame; readable = k.0.readable }, all fs k.1)
-
-pub no_line : (line : List ℕ) → IsNoLine line → IsNoRecord IsEntry line
-no_line line none r h e = none r (spelled r h) e
-
--- The line of another record.
-pub not_built : SpellingIsInjective → (line : List ℕ) (entry : Record) → IsSpelled entry → line ++ 10 ∷ [] ≡ record_line entry → (IsEntry entry → ⊥) → IsNoRecord IsEntry line
-not_built one line entry h is not r built e =
-    let same : r ≡ entry = one r entry (spelled r built) h (sym e ∙ is) in
-    not (subst IsEntry same built)
-
--- ---- how long a line is
+use Rattle.mirror.specs.Runner.{weight}
 
 tail_shorter : (x : List ℕ) (xs : List (List ℕ)) → length (join_with_byte 32 xs) ≤ length (join_with_byte 32 (x ∷ xs))
 tail_shorter x [] = omega arith

@@ -8,7 +8,7 @@ use Rattle.std.specs.Map.{lookup, keys_of}
 use Rattle.std.specs.BTreeMap.{is_at, keys}
 use Rattle.std.specs.BTreeSet.{insert_key}
 use Rattle.std.specs.Ordering.{is_eq, nat_cmp}
-use Rattle.std.proofs.lemmas.List.{length-append, length-map}
+use Rattle.std.proofs.lemmas.List.{append-nil, length-append, length-map}
 use Rattle.std.proofs.lemmas.List.Folds.{list_any-append}
 use Rattle.std.proofs.lemmas.Grind.{flat_map-append}
 use Rattle.std.proofs.lemmas.Bool.Decides.{nat_tests}
@@ -29,7 +29,7 @@ use Rattle.session_model.specs.Reported.{dropped_count, report_of}
 use Rattle.session_model.specs.SessionText.{closed_line, sent_line}
 use Rattle.session_model.specs.Streams.{is_shut, shuts, open_streams}
 use Rattle.session_model.specs.Transcript.{IsWholeFrame}
-use Rattle.session_model.proofs.Places.{append-nil, batch_count-append}
+use Rattle.session_model.proofs.Places.{batch_count-append}
 use Rattle.session_model.proofs.Taking.{taken_more}
 use Rattle.proto_core.specs.Session.{Session, requested}
 use Rattle.proto_core.specs.Refused.{IsCause}
@@ -37,25 +37,27 @@ use Rattle.proto_core.specs.declared.request.Request.{Request}
 use Rattle.proto_core.specs.declared.request.RequestRefusal.{RequestRefusal}
 use Rattle.proto_core.specs.declared.request.RequestRefusal.TheVariants as request_fault
 use Rattle.proto_core.specs.declared.request.ExpectResponse.TheVariants.{Explicit}
-use Rattle.session_steps.specs.After.{session_after, TakesOutgoing}
-use Rattle.session_steps.specs.Counts.{if_any, open_count}
-use Rattle.session_steps.specs.Requests.{message_in, messages_in, marks_in, marked, Opens}
-use Rattle.session_steps.specs.Stage.{Stage}
-use Rattle.session_steps.proofs.Rising.{has, rises, is_eq-nat_cmp}
-use Rattle.session_steps.proofs.Stages.{begun, received_text, shut_counts, shut_session, shut_shut, shut_streams, shut_text, open_is}
-use Rattle.session_steps.proofs.Batches.{request, counts_sent, fits_same, sent, sent_text}
-use Rattle.mirror.specs.declared.answer.Answer.{Answer}
-use Rattle.mirror.specs.declared.request.StepFault.{StepFault}
-use Rattle.mirror.specs.declared.request.StepFault.TheVariants as step
+use Rattle.session_laws.specs.After.{session_after, TakesOutgoing}
+use Rattle.session_laws.specs.Counts.{if_any, open_count}
+use Rattle.session_laws.specs.Requests.{message_in, messages_in, marks_in, marked, Opens}
+use Rattle.session_laws.specs.Stage.{Stage}
+use Rattle.session_laws.proofs.Rising.{has, rises, is_eq-nat_cmp}
+use Rattle.session_laws.proofs.Stages.{begun, received_text, shut_counts, shut_session, shut_shut, shut_streams, shut_text, open_is}
+use Rattle.session_laws.proofs.Batches.{request, counts_sent, fits_same, sent, batch_text}
+use Rattle.mirror.specs.declared.record_text.RecordText.{RecordText}
+use Rattle.mirror.specs.declared.step_fault.StepFault.{StepFault}
+use Rattle.mirror.specs.declared.step_fault.StepFault.TheVariants as step
 use Rattle.mirror.specs.declared.runner.Runner.{Runner}
 use Rattle.mirror.specs.Format.{IsEntry, Message, format}
-use Rattle.mirror.specs.Faults.{IsStepping, IsWriting}
-use Rattle.mirror.specs.Io.{GainedSome}
-use Rattle.mirror.specs.Refusals.{fault_of}
-use Rattle.mirror.specs.Steps.{Amid, Brought, Fails, Keeps, Sends, Tracks, WhyNot, message_count, closes, events, fault_at, open_at, text_behind}
-use Rattle.mirror.proofs.Ends.{gained_none}
-use Rattle.mirror.proofs.StepLaws.{dropped-append}
+use Rattle.mirror.specs.Faults.{IsStepFault, IsOutputFault}
+use Rattle.transcript_io.specs.Io.{GainedSome}
+use Rattle.transcript_io.proofs.Gains.{gained_none}
+use Rattle.mirror.specs.RecordText.{HasNoText, closes}
+use Rattle.mirror.specs.Refusals.{fault_at, fault_of}
+use Rattle.mirror.specs.Runner.{MidRecord, HasApplied, Fails, Keeps, OpensStream, RefusedBy, Sends, TakesRecord, Tracks, WhyNot, message_count, events, open_at, added_text}
+use Rattle.mirror.proofs.RunnerLaws.{dropped-append}
 
+-- The events of one record more come after those before.
 pub events_more : (rs : List Record) (r : Record) → events (rs ++ r ∷ []) ≡ events rs ++ record_events format r
 events_more rs r = flat_map-append (record_events format) rs (r ∷ []) ∙ ap (λ es. events rs ++ es) (append-nil (record_events format r))
 
@@ -69,24 +71,24 @@ has_entry : (es : List (ℕ × ℕ)) (k : ℕ) → has k (keys_of es) ≡ is_som
 has_entry [] k = refl
 has_entry (e ∷ es) k = ap (λ b. b || has k (keys_of es)) (sym (is_eq-nat_cmp k e.0)) ∙ by (is_eq (nat_cmp k e.0)) (has_entry es k)
   where
-    by : (b : Bool) → has k (keys_of es) ≡ is_some (lookup (is_at (nat_cmp k)) es) → (b || has k (keys_of es)) ≡ is_some (cond b (Some e.1) (lookup (is_at (nat_cmp k)) es))
+    by : (b : Bool) → has k (keys_of es) ≡ is_some (lookup (is_at (nat_cmp k)) es)
+        → (b || has k (keys_of es)) ≡ is_some (cond b (Some e.1) (lookup (is_at (nat_cmp k)) es))
     by true h = refl
     by false h = h
 
 -- ---- why a record isn't taken
 
-refused_by : (s : Settings) (rs : List Record) (r : Record) (shut over fits : Bool) → is_shut (events rs) ≡ shut → nat_lt 4294967295 (last_number s.start (events rs) + numbers_of r) ≡ over → all_fit format r ≡ fits
+refused_by : (s : Settings) (rs : List Record) (r : Record) (shut over fits : Bool) → is_shut (events rs) ≡ shut
+    → nat_lt 4294967295 (last_number s.start (events rs) + numbers_of r) ≡ over → all_fit format r ≡ fits
     → refusal format s (events rs) r ≡ cond shut (Some AfterClose) (cond over (Some OutOfNumbers) (cond (not fits) (Some TooLong) None))
 refused_by s rs r shut over fits a b c =
     ap (λ t. cond t (Some AfterClose) (cond (nat_lt 4294967295 (last_number s.start (events rs) + numbers_of r)) (Some OutOfNumbers) (cond (not (all_fit format r)) (Some TooLong) None))) a
     ∙ ap (λ t. cond shut (Some AfterClose) (cond t (Some OutOfNumbers) (cond (not (all_fit format r)) (Some TooLong) None))) b
     ∙ ap (λ t. cond shut (Some AfterClose) (cond over (Some OutOfNumbers) (cond (not t) (Some TooLong) None))) c
 
-pub closed_refuses : (s : Settings) (rs : List Record) (r : Record) (runner : Runner) → Tracks s rs runner → runner.closed ≡ true → refusal format s (events rs) r ≡ Some AfterClose
-closed_refuses s rs r runner h closed = refused_by s rs r true (nat_lt 4294967295 (last_number s.start (events rs) + numbers_of r)) (all_fit format r) (sym h.closed ∙ closed) refl refl
-
--- a record that sends nothing is taken
-taken_free : (s : Settings) (rs : List Record) (r : Record) (runner : Runner) → Tracks s rs runner → runner.closed ≡ false → runner.session.session.last < 2 ^ 32 → numbers_of r ≡ 0 → all_fit format r ≡ true
+-- A record that sends nothing is taken.
+taken_free : (s : Settings) (rs : List Record) (r : Record) (runner : Runner) → Tracks s rs runner → runner.closed ≡ false
+    → runner.session.session.last < 2 ^ 32 → numbers_of r ≡ 0 → all_fit format r ≡ true
     → refusal format s (events rs) r ≡ None
 taken_free s rs r runner h closed low none fits =
     let last : last_number s.start (events rs) ≡ runner.session.session.last = sym (ap (λ q. q.last) h.session) in
@@ -94,17 +96,31 @@ taken_free s rs r runner h closed low none fits =
     let under : nat_lt 4294967295 (last_number s.start (events rs) + numbers_of r) ≡ false = grind (arith, nat_tests, sum) in
     refused_by s rs r false false true (sym h.closed ∙ closed) under fits
 
--- each frame of a batch has its message
-messages_count : (frames : List BatchFrame) → AllByRecursion (λ (frame : BatchFrame). IsWholeFrame format frame.bytes) frames → length (messages_in format frames) ≡ length frames
+-- Each frame of a batch has its message.
+messages_count : (frames : List BatchFrame) → AllByRecursion (λ (frame : BatchFrame). IsWholeFrame format.reads frame.bytes) frames
+    → length (messages_in format frames) ≡ length frames
 messages_count [] h = refl
 messages_count (x ∷ xs) h = by (frame_at format.reads x.bytes) h.0.readable (messages_count xs h.1)
   where
-    by : (r : Result (NetlinkMessage Message) DecodeError) → IsOk r → length (messages_in format xs) ≡ length xs → length (message_in format r ++ messages_in format xs) ≡ suc (length xs)
+    by : (r : Result (NetlinkMessage Message) DecodeError) → IsOk r → length (messages_in format xs) ≡ length xs
+        → length (message_in format r ++ messages_in format xs) ≡ suc (length xs)
     by (Ok m) ok ih = ap suc ih
     by (Err e) ok ih = cc
 
 module _ (s : Settings) (rs : List Record) (to : SocketAddr) (frames : List BatchFrame) (runner : Runner) (tracks : Tracks s rs runner) (open_still : runner.closed ≡ false) (entry : IsEntry (Batch to frames))
     (asks : Request Message ℕ) (messages : asks.messages ≡ messages_in format frames) where
+  -- The request of the batch, after so many others.
+  abbrev asked_at : ℕ → Request Message ℕ
+  asked_at streams = record {
+    metadata = streams + 1;
+    messages = messages_in format frames;
+    destination = to;
+    expect_response = Explicit (marks_in format frames);
+  }
+
+  abbrev fits_all : NetlinkMessage Message → Bool
+  fits_all = message_fits format.text format.fits
+
   count : length asks.messages ≡ length frames
   count = ap length messages ∙ messages_count frames entry.1
 
@@ -117,7 +133,10 @@ module _ (s : Settings) (rs : List Record) (to : SocketAddr) (frames : List Batc
   fit : list_all (λ (frame : BatchFrame). read_fits format (frame_at format.reads frame.bytes)) frames ≡ list_all (message_fits format.text format.fits) asks.messages
   fit = fits_same format frames ∙ ap (list_all (message_fits format.text format.fits)) (sym messages)
 
-  pub batch_free : runner.session.session.last + length asks.messages < 2 ^ 32 → list_all (message_fits format.text format.fits) asks.messages ≡ true → refusal format s (events rs) (Batch to frames) ≡ None
+  -- A batch whose numbers are there and whose messages fit is taken.
+  pub batch_free : runner.session.session.last + length asks.messages < 2 ^ 32
+      → list_all (message_fits format.text format.fits) asks.messages ≡ true
+      → refusal format s (events rs) (Batch to frames) ≡ None
   batch_free low fits =
       let n = count in
       let l = last in
@@ -125,7 +144,9 @@ module _ (s : Settings) (rs : List Record) (to : SocketAddr) (frames : List Batc
       let under : nat_lt 4294967295 (last_number s.start (events rs) + length frames) ≡ false = grind (arith, nat_tests, sum) in
       refused_by s rs (Batch to frames) false false true unshut under (fit ∙ fits)
 
-  pub batch_exhausted : 2 ^ 32 ≤ runner.session.session.last + length asks.messages → refusal format s (events rs) (Batch to frames) ≡ Some OutOfNumbers
+  -- A batch that needs more numbers than are left is not taken for them.
+  pub batch_exhausted : 2 ^ 32 ≤ runner.session.session.last + length asks.messages
+      → refusal format s (events rs) (Batch to frames) ≡ Some OutOfNumbers
   batch_exhausted high =
       let n = count in
       let l = last in
@@ -133,8 +154,10 @@ module _ (s : Settings) (rs : List Record) (to : SocketAddr) (frames : List Batc
       let over : nat_lt 4294967295 (last_number s.start (events rs) + length frames) ≡ true = grind (arith, nat_tests, sum) in
       refused_by s rs (Batch to frames) false true (all_fit format (Batch to frames)) unshut over refl
 
+  -- A batch of which a message does not fit is not taken for that.
   pub batch_unfit : (index : ℕ) → runner.session.session.last + length asks.messages < 2 ^ 32 → index < length asks.messages
-      → ((d : NetlinkMessage Message) → message_fits format.text format.fits (get_or asks.messages index d) ≡ false) → refusal format s (events rs) (Batch to frames) ≡ Some TooLong
+      → ((d : NetlinkMessage Message) → message_fits format.text format.fits (get_or asks.messages index d) ≡ false)
+      → refusal format s (events rs) (Batch to frames) ≡ Some TooLong
   batch_unfit index low within unfit =
       let n = count in
       let l = last in
@@ -148,26 +171,31 @@ module _ (s : Settings) (rs : List Record) (to : SocketAddr) (frames : List Batc
       some_unfit p (x ∷ xs) (suc i) low h = ap (λ b. p x && b) (some_unfit p xs i (omega (arith, low)) h) ∙ and-false (p x)
 
   -- A batch that is sent.
-  pub batch_sends : (new : Runner) (answer : Answer) (s1 : Session Message ℕ) → asks ≡ record { metadata = runner.streams + 1; messages = messages_in format frames; destination = to; expect_response = Explicit (marks_in format frames) }
+  batch_sends : (new : Runner) (after : RecordText) (s1 : Session Message ℕ) → asks ≡ asked_at runner.streams
       → runner.session.session.last + length asks.messages < 2 ^ 32 → list_all (message_fits format.text format.fits) asks.messages ≡ true
-      → s1 ≡ requested format.kind format.text runner.session.session asks → TakesOutgoing format s1 new.session.session [] answer.text.items → answer.replies.items ≡ []
+      → s1 ≡ requested format.kind format.text runner.session.session asks
+      → TakesOutgoing format s1 new.session.session [] after.text.items → after.replies.items ≡ []
       → Opens (runner.streams + 1) (marked (marks_in format frames)) (open_at runner) (open_at new)
-      → answer.closing.keys ≡ cond (marked (marks_in format frames) == 0) (insert_key nat_cmp [] (runner.streams + 1)) []
-      → Sends s rs to frames new answer
-  batch_sends new answer s1 is low fits is1 takes replies opens closing =
+      → after.closing.keys ≡ cond (marked (marks_in format frames) == 0) (insert_key nat_cmp [] (runner.streams + 1)) []
+      → Sends s rs to frames new after
+  batch_sends new after s1 is low fits is1 takes replies opens closing =
       let stream = batch_count 0 (events rs) + 1 in
       let n = marked (marks_in format frames) in
-      let same : asks ≡ request format s (events rs) to frames = is ∙ ap (λ k. record { metadata = k + 1; messages = messages_in format frames; destination = to; expect_response = Explicit (marks_in format frames) }) tracks.streams in
-      let all_fits : list_all (message_fits format.text format.fits) (messages_in format frames) ≡ true = ap (list_all (message_fits format.text format.fits)) (sym messages) ∙ fits in
-      let out = sent format s (events rs) to frames runner.session.session s1 new.session.session [] answer.text.items tracks.session all_fits (is1 ∙ ap (requested format.kind format.text runner.session.session) same) takes in
+      let same : asks ≡ request format s (events rs) to frames = is ∙ ap asked_at tracks.streams in
+      let all_fits : list_all fits_all (messages_in format frames) ≡ true = ap (list_all fits_all) (sym messages) ∙ fits in
+      let stepped = is1 ∙ ap (requested format.kind format.text runner.session.session) same in
+      let out = sent format s (events rs) to frames runner.session.session s1 new.session.session [] after.text.items
+      tracks.session all_fits stepped takes in
+      let line = sent_line {M = Message} (last_number s.start (events rs)) (Sent to (asked format frames)) in
       record {
         session = out.0;
-        counts = counts_sent format s (events rs) to frames (open_at runner) (open_at new) unshut tracks.counts (subst (λ k. Opens (k + 1) n (open_at runner) (open_at new)) tracks.streams opens);
-        text = ap (λ t. t ++ (answer.replies.items ++ flat_map closed_line answer.closing.keys)) out.1
-            ∙ ap (λ t. sent_line {M = Message} (last_number s.start (events rs)) (Sent to (asked format frames)) ++ (t ++ flat_map closed_line answer.closing.keys)) replies
-            ∙ ap (λ ks. sent_line {M = Message} (last_number s.start (events rs)) (Sent to (asked format frames)) ++ flat_map closed_line ks) (closing ∙ ap (λ k. cond (n == 0) ((k + 1) ∷ []) []) tracks.streams)
-            ∙ ap (λ t. sent_line {M = Message} (last_number s.start (events rs)) (Sent to (asked format frames)) ++ t) (one_closed (n == 0) stream)
-            ∙ sent_text format s (events rs) to frames unshut;
+        counts = counts_sent format s (events rs) to frames (open_at runner) (open_at new) unshut tracks.counts
+            (subst (λ k. Opens (k + 1) n (open_at runner) (open_at new)) tracks.streams opens);
+        text = ap (λ t. t ++ (after.replies.items ++ flat_map closed_line after.closing.keys)) out.1
+            ∙ ap (λ t. line ++ (t ++ flat_map closed_line after.closing.keys)) replies
+            ∙ ap (λ ks. line ++ flat_map closed_line ks) (closing ∙ ap (λ k. cond (n == 0) ((k + 1) ∷ []) []) tracks.streams)
+            ∙ ap (λ t. line ++ t) (one_closed (n == 0) stream)
+            ∙ batch_text format s (events rs) to frames unshut;
         free = batch_free low fits;
       }
     where
@@ -175,76 +203,93 @@ module _ (s : Settings) (rs : List Record) (to : SocketAddr) (frames : List Batc
       one_closed true k = append-nil (closed_line k)
       one_closed false k = refl
 
-  pub batch_sent : (marks : List Bool) (n : ℕ) (new : Runner) (before now : Answer) (s1 : Session Message ℕ) → marks ≡ marks_in format frames → n ≡ marked marks
+  -- A request that was taken sends its batch.
+  pub batch_sent : (marks : List Bool) (n : ℕ) (new : Runner) (before now : RecordText) (s1 : Session Message ℕ)
+      → marks ≡ marks_in format frames → n ≡ marked marks
       → asks ≡ record { metadata = runner.streams + 1; messages = asks.messages; destination = to; expect_response = Explicit marks }
       → runner.session.session.last + length asks.messages < 2 ^ 32 → list_all (message_fits format.text format.fits) asks.messages ≡ true
-      → s1 ≡ requested format.kind format.text runner.session.session asks → TakesOutgoing format s1 new.session.session before.text.items now.text.items → before.text.items ≡ [] → now.replies.items ≡ []
+      → s1 ≡ requested format.kind format.text runner.session.session asks
+      → TakesOutgoing format s1 new.session.session before.text.items now.text.items → before.text.items ≡ []
+      → now.replies.items ≡ []
       → Opens (runner.streams + 1) n (open_at runner) (open_at new)
       → now.closing.keys ≡ cond (n == 0) (insert_key nat_cmp before.closing.keys (runner.streams + 1)) before.closing.keys → before.closing.keys ≡ []
       → Sends s rs to frames new now
   batch_sent marks n new before now s1 marks_are n_is is low fits is1 takes text replies opens closing none =
       let count : n ≡ marked (marks_in format frames) = n_is ∙ ap marked marks_are in
       let k = runner.streams + 1 in
-      batch_sends new now s1
-      (is ∙ ap (λ ms. record { metadata = k; messages = ms; destination = to; expect_response = Explicit marks }) messages
-      ∙ ap (λ m. record { metadata = k; messages = messages_in format frames; destination = to; expect_response = Explicit m }) marks_are)
+      let same_messages = ap (λ ms. record { metadata = k; messages = ms; destination = to; expect_response = Explicit marks }) messages in
+      let same_marks =
+      ap (λ m. record { metadata = k; messages = messages_in format frames; destination = to; expect_response = Explicit m }) marks_are in
+      batch_sends new now s1 (is ∙ same_messages ∙ same_marks)
       low fits is1 (subst (λ t. TakesOutgoing format s1 new.session.session t now.text.items) text takes) replies
       (subst (λ c. Opens k c (open_at runner) (open_at new)) count opens)
       (closing ∙ ap (λ ks. cond (n == 0) (insert_key nat_cmp ks k) ks) none ∙ ap (λ c. cond (c == 0) (insert_key nat_cmp [] k) []) count)
 
 -- ---- a record that receives, from its beginning to its end
 
-pub amid_begins : (s : Settings) (rs : List Record) (old : Runner) (answer : Answer) → Tracks s rs old → old.closed ≡ false → answer.text.items ≡ [] → answer.replies.items ≡ [] → answer.closing.keys ≡ []
-    → Amid s rs [] old answer
-amid_begins s rs old answer h closed text replies closing = record {
+-- A record begins amid no events, with no text.
+pub amid_begins : (s : Settings) (rs : List Record) (old : Runner) (after : RecordText) → Tracks s rs old → old.closed ≡ false → HasNoText after
+    → MidRecord s rs [] old after
+amid_begins s rs old after h closed none = record {
   settings = h.settings;
-  stage = subst (λ t. Stage format s (events rs) [] old.session.session (open_at old) (closes answer) t answer.replies.items) (sym text)
-      (subst (λ r. Stage format s (events rs) [] old.session.session (open_at old) (closes answer) [] r) (sym replies)
-      (begun format s (events rs) old.session.session (open_at old) (closes answer) h.session h.counts (sym h.closed ∙ closed) (λ k. ap (list_any (is_at (nat_cmp k))) closing)));
+  stage = subst (λ t. Stage format s (events rs) [] old.session.session (open_at old) (closes after) t after.replies.items) (sym none.text)
+      (subst (λ r. Stage format s (events rs) [] old.session.session (open_at old) (closes after) [] r) (sym none.replies)
+      (begun format s (events rs) old.session.session (open_at old) (closes after) h.session h.counts (sym h.closed ∙ closed) (λ k. ap (list_any (is_at (nat_cmp k))) none.closing)));
   dropped = h.dropped ∙ ap dropped_count (sym (append-nil (events rs)));
 }
 
-pub amid_ends : (s : Settings) (rs : List Record) (r : Record) (old new : Runner) (answer : Answer) → Tracks s rs old → old.closed ≡ false → old.session.session.last < 2 ^ 32
-    → numbers_of r ≡ 0 → all_fit format r ≡ true → Amid s rs (record_events format r) new answer → Keeps old new → IsStrictlySortedBy nat_cmp answer.closing.keys → Brought s rs r new answer
-amid_ends s rs r old new answer h closed low none fits amid keeps ordered = record {
+-- A record that receives has brought its events.
+pub amid_ends : (s : Settings) (rs : List Record) (r : Record) (old new : Runner) (after : RecordText) → Tracks s rs old
+    → old.closed ≡ false → old.session.session.last < 2 ^ 32
+    → numbers_of r ≡ 0 → all_fit format r ≡ true → MidRecord s rs (record_events format r) new after → Keeps old new
+    → IsStrictlySortedBy nat_cmp after.closing.keys → HasApplied s rs r new after
+amid_ends s rs r old new after h closed low none fits amid keeps ordered = record {
   settings = amid.settings;
   session = amid.stage.stands;
   counts = amid.stage.counts;
   closed = keeps.closed ∙ closed ∙ sym amid.stage.unshut;
   streams = keeps.streams ∙ h.streams ∙ sym amid.stage.streams;
   dropped = amid.dropped;
-  text = received_text format s (events rs) (record_events format r) new.session.session (open_at new) (closes answer) answer.text.items answer.replies.items answer.closing.keys amid.stage
-      (rises answer.closing.keys ordered) (has_keys answer.closing.keys);
+  text = received_text format s (events rs) (record_events format r) new.session.session (open_at new) (closes after) after.text.items after.replies.items after.closing.keys amid.stage
+      (rises after.closing.keys ordered) (has_keys after.closing.keys);
   free = taken_free s rs r old h closed low none fits;
 }
 
-pub batch_ends : (s : Settings) (rs : List Record) (to : SocketAddr) (frames : List BatchFrame) (old new : Runner) (answer : Answer) → Tracks s rs old
-    → Sends s rs to frames new answer → new.settings ≡ old.settings → new.closed ≡ old.closed → new.streams ≡ old.streams + 1 → new.dropped ≡ old.dropped → Brought s rs (Batch to frames) new answer
-batch_ends s rs to frames old new answer h sends settings shut streams dropped = record {
+-- A batch has brought its events.
+pub batch_ends : (s : Settings) (rs : List Record) (to : SocketAddr) (frames : List BatchFrame) (old new : Runner)
+    (after : RecordText) → Tracks s rs old
+    → Sends s rs to frames new after → new.settings ≡ old.settings → OpensStream old new → HasApplied s rs (Batch to frames) new after
+batch_ends s rs to frames old new after h sends settings opens = record {
   settings = settings ∙ h.settings;
   session = sends.session;
   counts = sends.counts;
-  closed = shut ∙ h.closed ∙ sym (list_any-append shuts (events rs) (record_events format (Batch to frames)) ∙ or-false (is_shut (events rs)));
-  streams = streams ∙ ap (λ n. n + 1) h.streams ∙ sym (batch_count-append 0 (events rs) (record_events format (Batch to frames)));
-  dropped = dropped ∙ h.dropped ∙ sym (dropped-append (events rs) (record_events format (Batch to frames)) ∙ add-zero (dropped_count (events rs)));
+  closed = opens.closed ∙ h.closed
+      ∙ sym (list_any-append shuts (events rs) (record_events format (Batch to frames)) ∙ or-false (is_shut (events rs)));
+  streams = opens.streams ∙ ap (λ n. n + 1) h.streams ∙ sym (batch_count-append 0 (events rs) (record_events format (Batch to frames)));
+  dropped = opens.dropped ∙ h.dropped
+      ∙ sym (dropped-append (events rs) (record_events format (Batch to frames)) ∙ add-zero (dropped_count (events rs)));
   text = sends.text;
   free = sends.free;
 }
 
 -- A close closes all open streams.
-pub close_ends : (s : Settings) (rs : List Record) (r : Record) (old new : Runner) (answer : Answer) (t : List ℕ) → r ≡ Close → Tracks s rs old → old.closed ≡ false → old.session.session.last < 2 ^ 32
-    → new.settings ≡ old.settings → new.session ≡ old.session → new.open_streams.entries ≡ [] → new.streams ≡ old.streams → new.dropped ≡ old.dropped → new.closed ≡ true
-    → IsStrictlySortedBy nat_cmp (keys old.open_streams) → answer.text.items ≡ t ++ flat_map closed_line (keys old.open_streams) → t ≡ [] → answer.replies.items ≡ [] → answer.closing.keys ≡ []
-    → Brought s rs r new answer
-close_ends s rs r old new answer t is h closed low settings session empty streams dropped shut ordered lines_are begun_empty replies none = subst (λ e. Brought s rs e new answer) (sym is) (record {
+pub close_ends : (s : Settings) (rs : List Record) (r : Record) (old new : Runner) (after : RecordText) (t : List ℕ)
+    → r ≡ Close → Tracks s rs old → old.closed ≡ false → old.session.session.last < 2 ^ 32
+    → new.settings ≡ old.settings → new.session ≡ old.session → new.open_streams.entries ≡ [] → new.streams ≡ old.streams
+    → new.dropped ≡ old.dropped → new.closed ≡ true
+    → IsStrictlySortedBy nat_cmp (keys old.open_streams)
+    → after.text.items ≡ t ++ flat_map closed_line (keys old.open_streams) → t ≡ [] → after.replies.items ≡ []
+    → after.closing.keys ≡ []
+    → HasApplied s rs r new after
+close_ends s rs r old new after t is h closed low settings session empty streams dropped shut ordered lines_are begun_empty replies none = subst (λ e. HasApplied s rs e new after) (sym is) (record {
   settings = settings ∙ h.settings;
   session = ap (λ q. q.session) session ∙ h.session ∙ sym (shut_session format s (events rs));
   counts = shut_counts format s (events rs) (open_at new) (λ k. ap (lookup (is_at (nat_cmp k))) empty);
   closed = shut ∙ sym (shut_shut format s (events rs));
   streams = streams ∙ h.streams ∙ sym (shut_streams format s (events rs));
   dropped = dropped ∙ h.dropped ∙ sym (dropped-append (events rs) (Shut ∷ []) ∙ add-zero (dropped_count (events rs)));
-  text = ap (λ u. u ++ (answer.replies.items ++ flat_map closed_line answer.closing.keys)) (lines_are ∙ ap (λ u. u ++ flat_map closed_line (keys old.open_streams)) begun_empty)
-      ∙ ap (λ u. flat_map closed_line (keys old.open_streams) ++ (u ++ flat_map closed_line answer.closing.keys)) replies
+  text = ap (λ u. u ++ (after.replies.items ++ flat_map closed_line after.closing.keys)) (lines_are ∙ ap (λ u. u ++ flat_map closed_line (keys old.open_streams)) begun_empty)
+      ∙ ap (λ u. flat_map closed_line (keys old.open_streams) ++ (u ++ flat_map closed_line after.closing.keys)) replies
       ∙ ap (λ ks. flat_map closed_line (keys old.open_streams) ++ flat_map closed_line ks) none
       ∙ append-nil (flat_map closed_line (keys old.open_streams))
       ∙ shut_text format s (events rs) (open_at old) (keys old.open_streams) h.counts (rises (keys old.open_streams) ordered) (has_entry old.open_streams.entries);
@@ -252,9 +297,10 @@ close_ends s rs r old new answer t is h closed low settings session empty stream
 })
 
 -- One record more is taken.
-pub brought_tracks : (s : Settings) (rs : List Record) (r : Record) (old new : Runner) (answer : Answer) → Tracks s rs old → IsEntry r → Brought s rs r new answer → new.lines ≡ old.lines
+pub brought_tracks : (s : Settings) (rs : List Record) (r : Record) (old new : Runner) (after : RecordText) → Tracks s rs old
+    → IsEntry r → HasApplied s rs r new after → new.lines ≡ old.lines
     → Tracks s (rs ++ r ∷ []) (record new { lines = new.lines + 1 })
-brought_tracks s rs r old new answer h entry b lines =
+brought_tracks s rs r old new after h entry b lines =
     let more = events_more rs r in record {
       settings = b.settings;
       session = b.session ∙ ap (session_after s.start) (sym more);
@@ -268,19 +314,25 @@ brought_tracks s rs r old new answer h entry b lines =
 
 -- ---- the report
 
-pub reported : (s : Settings) (rs : List Record) (runner : Runner) (messages still_open : ℕ) → Tracks s rs runner → messages ≡ message_count runner → IsStrictlySortedBy nat_cmp (keys runner.open_streams) → still_open ≡ length runner.open_streams.entries
+-- The report of a runner is that of its records.
+pub reported : (s : Settings) (rs : List Record) (runner : Runner) (messages still_open : ℕ) → Tracks s rs runner
+    → messages ≡ message_count runner → IsStrictlySortedBy nat_cmp (keys runner.open_streams)
+    → still_open ≡ length runner.open_streams.entries
     → record { lines = runner.lines; messages = messages; dropped = runner.dropped; still_open = still_open; in_step = false } ≡ report_of format s rs
 reported s rs runner messages still_open h count_is ordered is =
     let ks : keys runner.open_streams ≡ open_streams s.start (events rs) = open_is s.start (events rs) (open_at runner) (keys runner.open_streams) h.counts (rises (keys runner.open_streams) ordered) (has_entry runner.open_streams.entries) in
-    let count : still_open ≡ length (open_streams s.start (events rs)) = is ∙ sym (length-map runner.open_streams.entries (λ (e : ℕ × ℕ). e.0)) ∙ ap length ks in
+    let count : still_open ≡ length (open_streams s.start (events rs)) = is
+    ∙ sym (length-map runner.open_streams.entries (λ (e : ℕ × ℕ). e.0)) ∙ ap length ks in
     ap (λ n. record { lines = n; messages = messages; dropped = runner.dropped; still_open = still_open; in_step = false }) h.lines
     ∙ ap (λ n. record { lines = length rs; messages = n; dropped = runner.dropped; still_open = still_open; in_step = false }) (count_is ∙ ap (λ q. q.arrived) h.session)
     ∙ ap (λ n. record { lines = length rs; messages = length (arrivals (events rs)); dropped = n; still_open = still_open; in_step = false }) h.dropped
     ∙ ap (λ n. record { lines = length rs; messages = length (arrivals (events rs)); dropped = dropped_count (events rs); still_open = n; in_step = false }) count
 
--- why a session refuses the request of a batch
-pub batch_cause : (s : Settings) (rs : List Record) (to : SocketAddr) (frames : List BatchFrame) (runner : Runner) → Tracks s rs runner → runner.closed ≡ false → IsEntry (Batch to frames)
-    → (asks : Request Message ℕ) → asks.messages ≡ messages_in format frames → (refusal : RequestRefusal) → IsCause format.text format.fits runner.session.session.last asks.messages refusal
+-- Why a session refuses the request of a batch.
+pub batch_cause : (s : Settings) (rs : List Record) (to : SocketAddr) (frames : List BatchFrame) (runner : Runner)
+    → Tracks s rs runner → runner.closed ≡ false → IsEntry (Batch to frames)
+    → (asks : Request Message ℕ) → asks.messages ≡ messages_in format frames → (refusal : RequestRefusal)
+    → IsCause format.text format.fits runner.session.session.last asks.messages refusal
     → WhyNot s rs (Batch to frames) (fault_of refusal)
 batch_cause s rs to frames runner tracks open_still entry asks messages (request_fault.SequenceExhausted used asked) h = batch_exhausted s rs to frames runner tracks open_still entry asks messages h.2
 batch_cause s rs to frames runner tracks open_still entry asks messages (request_fault.Unfit index) h = batch_unfit s rs to frames runner tracks open_still entry asks messages index h.0 h.2 h.3
@@ -288,24 +340,30 @@ batch_cause s rs to frames runner tracks open_still entry asks messages request_
 
 -- ---- what a step leaves where it fails
 
--- the last of records that are taken is free
-last_free : (s : Settings) (before : List (Event Message)) (rs : List Record) (r : Record) → AreTaken format s IsEntry before (rs ++ r ∷ []) → refusal format s (before ++ events rs) r ≡ None
+-- The last of records that are taken is free.
+last_free : (s : Settings) (before : List (Event Message)) (rs : List Record) (r : Record)
+    → AreTaken format s IsEntry before (rs ++ r ∷ []) → refusal format s (before ++ events rs) r ≡ None
 last_free s before [] r h = ap (λ es. refusal format s es r) (append-nil before) ∙ h.1
-last_free s before (x ∷ rs) r h = ap (λ es. refusal format s es r) (sym (append_assoc before (record_events format x) (events rs))) ∙ last_free s (before ++ record_events format x) rs r h.2
+last_free s before (x ∷ rs) r h = ap (λ es. refusal format s es r) (sym (append_assoc before (record_events format x) (events rs)))
+    ∙ last_free s (before ++ record_events format x) rs r h.2
 
-pub not_taken : (s : Settings) (rs : List Record) (r : Record) (place : ℕ) (w : Option (List ℕ)) (why : StepFault) → WhyNot s rs r why → Fails s rs r place w w (fault_at why place)
+-- A record that is not taken writes nothing.
+pub not_taken : (s : Settings) (rs : List Record) (r : Record) (place : ℕ) (w : Option (List ℕ)) (why : StepFault)
+    → WhyNot s rs r why → Fails s rs r place w w (fault_at why place)
 not_taken s rs r place w step.Closed h = (refl, h, refl)
 not_taken s rs r place w step.SequenceExhausted h = (refl, h, refl)
 not_taken s rs r place w step.Unfit h = (refl, h, refl)
-not_taken s rs r place w step.NoMemory h = record { rest = text_behind s rs r; gained = gained_none w (text_behind s rs r) }
+not_taken s rs r place w step.NoMemory h = record { rest = added_text s rs r; gained = gained_none w (added_text s rs r) }
 
-pub not_written : (r : Record) (old new : Runner) (place : ℕ) (w0 w1 : Option (List ℕ)) (text : List ℕ) (result : Result (Unit {0}) RunFault) → OnErr result (GainedSome w0 w1 text) → IfErr result IsWriting
-    → ((s : Settings) (rs : List Record) → Tracks s rs old → Tracks s (rs ++ r ∷ []) new × (text ≡ text_behind s rs r))
+-- A record whose text is not written whole has written some first bytes of it.
+pub not_written : (r : Record) (old new : Runner) (place : ℕ) (w0 w1 : Option (List ℕ)) (text : List ℕ)
+    (result : Result (Unit {0}) RunFault) → OnErr result (GainedSome w0 w1 text) → IfErr result IsOutputFault
+    → TakesRecord old r new text
     → IfErr result (λ e. (s : Settings) (rs : List Record) → Tracks s rs old → Fails s rs r place w0 w1 e)
 not_written r old new place w0 w1 text (Ok u) some only step = tt
 not_written r old new place w0 w1 text (Err e) some only step = by e only
   where
-    by : (e : RunFault) → IsWriting e → (s : Settings) (rs : List Record) → Tracks s rs old → Fails s rs r place w0 w1 e
+    by : (e : RunFault) → IsOutputFault e → (s : Settings) (rs : List Record) → Tracks s rs old → Fails s rs r place w0 w1 e
     by (run.BadRecord at) h s rs tracks = absurd h
     by (run.Closed at) h s rs tracks = absurd h
     by (run.SequenceExhausted at) h s rs tracks = absurd h
@@ -315,13 +373,15 @@ not_written r old new place w0 w1 text (Err e) some only step = by e only
     by run.WriteFault h s rs tracks = let t = step s rs tracks in (last_free s [] rs r t.0.taken, subst (λ z. GainedSome w0 w1 z) t.1 some)
     by run.NoMemory h s rs tracks = let t = step s rs tracks in subst (λ z. GainedSome w0 w1 z) t.1 some
 
-pub refused_steps : (why : StepFault) (place : ℕ) → IsStepping (fault_at why place)
+-- What refuses a record is a fault of a step.
+pub refused_steps : (why : StepFault) (place : ℕ) → IsStepFault (fault_at why place)
 refused_steps step.Closed place = tt
 refused_steps step.SequenceExhausted place = tt
 refused_steps step.Unfit place = tt
 refused_steps step.NoMemory place = tt
 
-pub writing_steps : (r : Result (Unit {0}) RunFault) → IfErr r IsWriting → IfErr r IsStepping
+-- A fault of writing is a fault of a step.
+pub writing_steps : (r : Result (Unit {0}) RunFault) → IfErr r IsOutputFault → IfErr r IsStepFault
 writing_steps (Ok u) h = tt
 writing_steps (Err (run.BadRecord at)) h = absurd h
 writing_steps (Err (run.Closed at)) h = tt

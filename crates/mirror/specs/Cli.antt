@@ -1,13 +1,14 @@
 -- Which status the program ends with, and what it writes last.
-use Rattle.std.specs.Prelude.{◌≡◌, ◌⊎◌, ℕ, Bool, true, false, List, [], ◌∷◌, Option, IfSome, codes}
+use Rattle.std.specs.Prelude.{◌≡◌, ◌⊎◌, ℕ, Bool, true, false, List, [], ◌∷◌, Option, codes}
+use Rattle.std.specs.Io.KnownBytes.{IsAtEnd}
 use Rattle.std.specs.Fmt.{decimal}
 use Rattle.session_model.specs.declared.settings.Settings.{Settings}
 use Rattle.session_model.specs.declared.outcome.Report.{Report}
 use Rattle.session_model.specs.declared.outcome.RunFault.{RunFault}
 use Rattle.session_model.specs.declared.outcome.RunFault.TheVariants as run
 use Rattle.session_model.specs.Lines.{line}
-use Rattle.mirror.specs.Faults.{IsWriting}
-use Rattle.mirror.specs.Io.{GainedSome, with_back}
+use Rattle.mirror.specs.Faults.{IsOutputFault}
+use Rattle.transcript_io.specs.Io.{GainedSome, Traffic, with_back}
 use Rattle.mirror.specs.Outcome.{WasEnded, WasRun}
 
 -- The exit status of a fault.
@@ -26,39 +27,38 @@ abbrev pub yes_or_no : Bool → List ℕ
 yes_or_no true = codes "yes"
 yes_or_no false = codes "no"
 
--- The words behind `ok` that tell a report.
+-- The words after `ok` that report.
 abbrev pub report_words : Report → List (List ℕ)
-report_words r = decimal r.lines ∷ decimal r.messages ∷ decimal r.dropped ∷ decimal r.still_open ∷ yes_or_no r.in_step ∷ []
+report_words r =
+    decimal r.lines ∷ decimal r.messages ∷ decimal r.dropped ∷ decimal r.still_open ∷ yes_or_no r.in_step ∷ []
 
 -- The line `ok LINES MESSAGES DROPPED OPEN STEP`.
 abbrev pub ok_line : Report → List ℕ
 ok_line r = line (codes "ok" ∷ report_words r)
 
 -- The whole input was run, the sink gained its text, and then the line of its report.
-pub record WasTold (s : Settings) (left_then left_now written_then written_now : Option (List ℕ)) : Type 0 where
+pub record WasReported (s : Settings) (io : Traffic) : Type 0 where
   pub report : Report
   pub between : Option (List ℕ)
-  pub run : WasRun s left_then left_now written_then between report
-  pub end : IfSome left_now (λ rest. rest ≡ [])
-  pub told : written_now ≡ with_back between (ok_line report)
+  pub run : WasRun s (record io { written_after = between }) report
+  pub end : IsAtEnd io.left_after
+  pub wrote : io.written_after ≡ with_back between (ok_line report)
 
--- The whole input was run and the sink gained its text, and then only some front of the line of its report.
-pub record WasCutShort (s : Settings) (left_then left_now written_then written_now : Option (List ℕ)) (fault : RunFault) : Type 0 where
+-- The whole input was run and the sink gained its text, and then only some first bytes of the line of its report.
+pub record WasCutShort (s : Settings) (io : Traffic) (fault : RunFault) : Type 0 where
   pub report : Report
   pub between : Option (List ℕ)
-  pub run : WasRun s left_then left_now written_then between report
-  pub end : IfSome left_now (λ rest. rest ≡ [])
-  pub told : GainedSome between written_now (ok_line report)
-  pub writing : IsWriting fault
+  pub run : WasRun s (record io { written_after = between }) report
+  pub end : IsAtEnd io.left_after
+  pub wrote : GainedSome between io.written_after (ok_line report)
+  pub cause : IsOutputFault fault
 
 -- A run ended by a fault, or its report could not be written whole.
-abbrev pub HasFailed : Settings → Option (List ℕ) → Option (List ℕ) → Option (List ℕ) → Option (List ℕ) → RunFault → Type 0
-HasFailed s left_then left_now written_then written_now fault =
-    WasEnded s left_then left_now written_then written_now fault
-    ⊎ WasCutShort s left_then left_now written_then written_now fault
+abbrev pub HasFailed : Settings → Traffic → RunFault → Type 0
+HasFailed s io fault = WasEnded s io fault ⊎ WasCutShort s io fault
 
--- What stands behind a status: 0 for a run that is told whole, and that of the fault for one that failed.
-abbrev pub Ran : Settings → Option (List ℕ) → Option (List ℕ) → Option (List ℕ) → Option (List ℕ) → ℕ → Type 0
-Ran s left_then left_now written_then written_now status =
-    ((status ≡ 0) × WasTold s left_then left_now written_then written_now)
-    ⊎ ((fault : RunFault) × ((status ≡ fault_status fault) × HasFailed s left_then left_now written_then written_now fault))
+-- What a status says: 0 of a run whose report is written whole, and that of the fault of one that failed.
+abbrev pub Ran : Settings → Traffic → ℕ → Type 0
+Ran s io status =
+    ((status ≡ 0) × WasReported s io)
+    ⊎ ((fault : RunFault) × ((status ≡ fault_status fault) × HasFailed s io fault))

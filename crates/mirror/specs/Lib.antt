@@ -2,10 +2,8 @@ pub mod Cli
 pub mod Faults
 pub mod Feeding
 pub mod Format
-pub mod Io
-pub mod Memory
 pub mod Options
 pub mod Outcome
+pub mod RecordText
 pub mod Refusals
-pub mod Steps
-pub mod Words
+pub mod Runner

@@ -56,13 +56,18 @@ abbrev pub AreDistinct : List Choice → Type 0
 AreDistinct [] = Unit {0}
 AreDistinct (choice ∷ choices) = (has_kind (kind_of choice) choices ≡ false) × AreDistinct choices
 
--- Words spell settings: `run`, and then options in any order, at most one of each setting. The settings are the usual ones changed by these.
+-- Words spell settings: `run`, and then options in any order, at most one of each setting. The settings are the usual
+-- ones changed by these.
 pub record SpellSettings (words : List (List ℕ)) (settings : Settings) : Type 0 where
   pub choices : List Choice
   pub spelled : words ≡ codes "run" ∷ map choice_word choices
   pub in_range : AllByRecursion IsInRange choices
   pub distinct : AreDistinct choices
   pub usual_else : settings ≡ fold changed usual choices
+
+-- Words that spell no settings.
+abbrev pub AreOtherWords : List (List ℕ) → Type 0
+AreOtherWords words = (settings : Settings) → SpellSettings words settings → ⊥
 
 -- This is the option that a word spells, and None where it spells none.
 abbrev pub IsChoiceOf : List ℕ → Option Choice → Type 0
@@ -75,10 +80,10 @@ pub record MayBeNumber (digits : List ℕ) : Type 0 where
   pub begins : (48 ≤ slice_index digits 0) × (slice_index digits 0 ≤ 57)
   pub leading : slice_index digits 0 ≡ 48 → length digits ≡ 1
 
--- This is the number below a bound whose decimal a word has behind a name, and None where it has none.
-abbrev pub IsNumberBehind : ℕ → List ℕ → List ℕ → Option ℕ → Type 0
-IsNumberBehind bound name word (Some number) = (number < bound) × (word ≡ name ++ decimal number)
-IsNumberBehind bound name word None = (number : ℕ) → number < bound → word ≢ name ++ decimal number
+-- This is the number below a bound whose decimal a word has after a name, and None where it has none.
+abbrev pub IsNumberAfter : ℕ → List ℕ → List ℕ → Option ℕ → Type 0
+IsNumberAfter bound name word (Some number) = (number < bound) × (word ≡ name ++ decimal number)
+IsNumberAfter bound name word None = (number : ℕ) → number < bound → word ≢ name ++ decimal number
 
 -- Settings, and a mark for each kind, after options of different settings.
 pub record HasTaken (choices : List Choice) (settings : Settings) (taken : List Bool) : Type 0 where

@@ -1,21 +1,22 @@
-// The program over any source and sink.
+//! The program over any source and sink.
 ghost use Rattle.std.specs.Prelude.{◌≡◌, ◌≤◌, ◌++◌, OnOk, OnErr, IfErr, Err, map, string_bytes};
 ghost use Rattle.session_model.specs.declared.settings.Settings.{Settings};
-ghost use Rattle.mirror.specs.Cli.{HasFailed, Ran, WasTold, fault_status, ok_line};
-ghost use Rattle.mirror.specs.Faults.{IsWriting};
-ghost use Rattle.mirror.specs.Io.{GainedSome, HasRisen, with_back};
-ghost use Rattle.mirror.specs.Options.{SpellSettings};
+ghost use Rattle.transcript_io.specs.Io.{GainedSome, HasRisen, traffic, with_back};
+ghost use Rattle.mirror.specs.Cli.{HasFailed, Ran, WasReported, fault_status, ok_line};
+ghost use Rattle.mirror.specs.Faults.{IsOutputFault};
+ghost use Rattle.mirror.specs.Options.{AreOtherWords, SpellSettings};
 
-use crate::io::{Sink, Source, write_all};
 use crate::options::read_words;
+use crate::output::write_text;
 use crate::program::run;
-use crate::words::{Word, put_line};
 use nl_core::NoMemory;
 use session_model::{Report, RunFault, Settings};
 use std::alloc::Global;
+use transcript_io::{Sink, Source};
+use transcript_lines::{Word, put_line};
 
-// The status of a run that was told whole.
-const TOLD: u8 = 0;
+// The status of a run whose text and report are written whole.
+const SUCCESS: u8 = 0;
 
 // The status of words that are not the program's.
 const OTHER_WORDS: u8 = 1;
@@ -29,11 +30,12 @@ const OTHER_WORDS: u8 = 1;
 /// last line could not be written.
 pub fn cli<S: Source, K: Sink>(alloc: Global, words: &[String], input: &mut S, out: &mut K) -> u8
     ensures ran { (settings : Settings) → SpellSettings (map string_bytes words.now) settings
-        → Ran settings (S.left input.old) (S.left input.new) (K.written out.old) (K.written out.new) result }
+        → Ran settings (traffic S.left input.old input.new K.written out.old out.new) result }
 
     // Status 1 comes exactly where the words spell no settings, and leaves source and sink as they were.
-    ensures other { ((settings : Settings) → ¬ (SpellSettings (map string_bytes words.now) settings)) → (result ≡ 1) × (input.new ≡ input.old) × (out.new ≡ out.old) }
-    ensures usage { result ≡ 1 → (settings : Settings) → ¬ (SpellSettings (map string_bytes words.now) settings) }
+    ensures other { AreOtherWords (map string_bytes words.now) → result ≡ 1 }
+    ensures usage { result ≡ 1 → AreOtherWords (map string_bytes words.now) }
+    ensures untouched { AreOtherWords (map string_bytes words.now) → (input.new ≡ input.old) × (out.new ≡ out.old) }
 
     ensures read_cause { result ≡ 7 → HasRisen (S.faults input.old) (S.faults input.new) }
     ensures write_cause { result ≡ 8 → HasRisen (K.faults out.old) (K.faults out.new) }
@@ -41,8 +43,8 @@ pub fn cli<S: Source, K: Sink>(alloc: Global, words: &[String], input: &mut S, o
     let Some(settings) = read_words(words) else {
         return OTHER_WORDS;
     };
-    match run_and_tell(alloc, input, out, &settings) {
-        Ok(()) => TOLD,
+    match run_and_report(alloc, input, out, &settings) {
+        Ok(()) => SUCCESS,
         Err(fault) => status_of(fault),
     }
 }
@@ -64,32 +66,34 @@ fn status_of(fault: RunFault) -> u8
 }
 
 // Runs the source's transcript under settings, and writes its report.
-fn run_and_tell<S: Source, K: Sink>(
+fn run_and_report<S: Source, K: Sink>(
     alloc: Global,
     input: &mut S,
     out: &mut K,
     settings: &Settings,
 ) -> Result<(), RunFault>
-    ensures ok { OnOk result (WasTold settings.now (S.left input.old) (S.left input.new) (K.written out.old) (K.written out.new)) }
-    ensures failed { IfErr result (HasFailed settings.now (S.left input.old) (S.left input.new) (K.written out.old) (K.written out.new)) }
+    ensures ok { OnOk result
+        (WasReported settings.now (traffic S.left input.old input.new K.written out.old out.new)) }
+    ensures failed { IfErr result
+        (HasFailed settings.now (traffic S.left input.old input.new K.written out.old out.new)) }
     ensures read_cause { result ≡ Err RunFault.ReadFault → HasRisen (S.faults input.old) (S.faults input.new) }
     ensures write_cause { result ≡ Err RunFault.WriteFault → HasRisen (K.faults out.old) (K.faults out.new) }
 {
     let report = run(alloc, input, out, settings)?;
-    tell(alloc, &report, out)
+    write_report(alloc, &report, out)
 }
 
 // Writes the line of a report.
-fn tell<K: Sink>(alloc: Global, report: &Report, out: &mut K) -> Result<(), RunFault>
+fn write_report<K: Sink>(alloc: Global, report: &Report, out: &mut K) -> Result<(), RunFault>
     ensures ok { OnOk result (K.written out.new ≡ with_back (K.written out.old) (ok_line report.now)) }
     ensures part { OnErr result (GainedSome (K.written out.old) (K.written out.new) (ok_line report.now)) }
     ensures cause { result ≡ Err RunFault.WriteFault → HasRisen (K.faults out.old) (K.faults out.new) }
-    ensures only { IfErr result IsWriting }
+    ensures only { IfErr result IsOutputFault }
     ensures later { K.faults out.old ≤ K.faults out.new }
 {
     let mut text = Vec::new(alloc);
     put_report(&mut text, report)?;
-    write_all(out, text.as_slice())
+    write_text(out, text.as_slice())
 }
 
 // Adds the line of a report.

@@ -1,9 +1,9 @@
-// The words of the program, and the settings that they spell.
+//! The words of the program, and the settings that they spell.
 ghost use Rattle.std.specs.Prelude.{◌≡◌, ◌≢◌, ◌<◌, ◌^◌, ◌++◌, ◌∷◌, [], List, ℕ, MatchBool, MatchOption, codes, map, string_bytes, true};
 ghost use Rattle.std.specs.Fmt.{decimal};
 ghost use Rattle.session_model.specs.declared.settings.Settings.{Settings};
 ghost use Rattle.mirror.specs.declared.options.Choice.{Choice};
-ghost use Rattle.mirror.specs.Options.{HasTaken, IsChoiceOf, IsInRange, IsNumberBehind, MayBeNumber, SpellSettings, changed, choice_word, has_kind, kind_of};
+ghost use Rattle.mirror.specs.Options.{AreOtherWords, HasTaken, IsChoiceOf, IsInRange, IsNumberAfter, MayBeNumber, SpellSettings, changed, choice_word, has_kind, kind_of};
 
 use session_model::Settings;
 
@@ -20,12 +20,12 @@ pub enum Choice {
 }
 
 // How many settings have an option.
-const KINDS: usize = 7;
+const OPTION_COUNT: usize = 7;
 
 impl Choice {
     fn kind(self) -> usize
         ensures kind { result ≡ kind_of self }
-        ensures small { result < KINDS }
+        ensures small { result < OPTION_COUNT }
     {
         match self {
             Choice::Limit(_) => 0,
@@ -55,25 +55,26 @@ impl Choice {
 
 // The settings of the options so far, and which settings have one.
 #[derive(Clone, Copy)]
-struct Chosen {
+struct ChosenOptions {
     settings: Settings,
-    taken: [bool; KINDS],
+    taken: [bool; OPTION_COUNT],
 }
 
-impl Chosen {
+impl ChosenOptions {
     fn new() -> Self
         ensures { HasTaken [] result.settings result.taken }
     {
-        Chosen {
+        ChosenOptions {
             settings: Settings::usual(),
-            taken: [false; KINDS],
+            taken: [false; OPTION_COUNT],
         }
     }
 
     // Takes an option, unless its setting has one.
     fn take(&mut self, choice: Choice) -> bool
         ensures { (choices : List Choice) → HasTaken choices self.old.settings self.old.taken
-            → MatchBool result (HasTaken (choices ++ choice ∷ []) self.new.settings self.new.taken) (has_kind (kind_of choice) choices ≡ true) }
+            → MatchBool result (HasTaken (choices ++ choice ∷ []) self.new.settings self.new.taken)
+            (has_kind (kind_of choice) choices ≡ true) }
     {
         let kind = choice.kind();
         if self.taken[kind] {
@@ -85,8 +86,8 @@ impl Chosen {
     }
 }
 
-// What is behind a name, where that may be a number: digits without a leading zero, or `0`.
-fn digits_behind<'a>(name: &str, word: &'a str) -> Option<&'a str>
+// What comes after a name, where that may be a number: digits without a leading zero, or `0`.
+fn digits_after<'a>(name: &str, word: &'a str) -> Option<&'a str>
     ensures { MatchOption result ((number : ℕ) → number < 2 ^ 64 → word.now ≢ name.now ++ decimal number)
         (λ digits. (word.now ≡ name.now ++ digits.now) × MayBeNumber digits.now) }
 {
@@ -100,23 +101,24 @@ fn digits_behind<'a>(name: &str, word: &'a str) -> Option<&'a str>
     Some(digits)
 }
 
-// The number behind a name.
-fn long_behind(name: &str, word: &str) -> Option<u64>
-    ensures { IsNumberBehind (2 ^ 64) name.now word.now result }
+// The number below 2^64 after a name.
+fn u64_after(name: &str, word: &str) -> Option<u64>
+    ensures { IsNumberAfter (2 ^ 64) name.now word.now result }
 {
-    digits_behind(name, word)?.parse().ok()
+    digits_after(name, word)?.parse().ok()
 }
 
-// The same of a number below 2^32.
-fn number_behind(name: &str, word: &str) -> Option<u32>
-    ensures { IsNumberBehind (2 ^ 32) name.now word.now result }
+// The number below 2^32 after a name.
+fn u32_after(name: &str, word: &str) -> Option<u32>
+    ensures { IsNumberAfter (2 ^ 32) name.now word.now result }
 {
-    digits_behind(name, word)?.parse().ok()
+    digits_after(name, word)?.parse().ok()
 }
 
 // The option without a number that a word spells.
 fn read_flag(word: &str) -> Option<Choice>
-    ensures { MatchOption result ((word.now ≢ codes "noop") × (word.now ≢ codes "done") × (word.now ≢ codes "ack"))
+    ensures { MatchOption result
+        ((word.now ≢ codes "noop") × (word.now ≢ codes "done") × (word.now ≢ codes "ack"))
         (λ choice. IsInRange choice × (word.now ≡ choice_word choice)) }
 {
     match word {
@@ -131,16 +133,16 @@ fn read_flag(word: &str) -> Option<Choice>
 fn read_choice(word: &str) -> Option<Choice>
     ensures { IsChoiceOf word.now result }
 {
-    if let Some(limit) = long_behind("limit=", word) {
+    if let Some(limit) = u64_after("limit=", word) {
         return Some(Choice::Limit(limit));
     }
-    if let Some(peer) = number_behind("peer=", word) {
+    if let Some(peer) = u32_after("peer=", word) {
         return Some(Choice::Peer(peer));
     }
-    if let Some(table) = number_behind("table=", word) {
+    if let Some(table) = u32_after("table=", word) {
         return Some(Choice::Table(table));
     }
-    if let Some(start) = number_behind("start=", word) {
+    if let Some(start) = u32_after("start=", word) {
         return Some(Choice::Start(start));
     }
     read_flag(word)
@@ -149,14 +151,14 @@ fn read_choice(word: &str) -> Option<Choice>
 /// The settings that words spell: `run`, and then options in any order, at most one of each setting. They are `limit=N`,
 /// `peer=N`, `table=N`, `start=N`, `noop`, `done` and `ack`; N is decimal without leading zeros.
 pub fn read_words(words: &[String]) -> Option<Settings>
-    ensures { MatchOption result ((settings : Settings) → ¬ (SpellSettings (map string_bytes words.now) settings))
+    ensures { MatchOption result (AreOtherWords (map string_bytes words.now))
         (SpellSettings (map string_bytes words.now)) }
 {
     let (first, choices) = words.split_first()?;
     if first.as_str() != "run" {
         return None;
     }
-    let mut chosen = Chosen::new();
+    let mut chosen = ChosenOptions::new();
     for word in choices {
         let choice = read_choice(word.as_str())?;
         if !chosen.take(choice) {

@@ -1,25 +1,33 @@
-// A session run record by record.
+//! A session run record by record.
 ghost use Rattle.std.specs.Prelude.{◌≡◌, ◌+◌, ◌<◌, ◌≤◌, ◌^◌, ◌∷◌, [], ◌++◌, ℕ, List, Err, IfOk, OnOk, IfErr, false, length};
 ghost use Rattle.std.specs.Bool.{OnFalse, OnTrue};
 ghost use Rattle.std.specs.BTreeSet.{IsOrdered};
 ghost use Rattle.std.specs.Ordering.{nat_cmp};
-ghost use Rattle.session_model.specs.Events.{datagram_events, overrun_arrival};
+ghost use Rattle.session_model.specs.Events.{is_awaited_by, overrun_arrival};
+ghost use Rattle.session_laws.specs.Requests.{marked, marks_in, messages_in};
+ghost use Rattle.transcript_io.specs.Io.{HasRisen, with_back};
 ghost use Rattle.mirror.specs.Format.{format};
-ghost use Rattle.mirror.specs.Faults.{IsStepping};
-ghost use Rattle.mirror.specs.Io.{HasRisen, with_back};
+ghost use Rattle.mirror.specs.Faults.{IsStepFault};
 
-use crate::answer::{Answer, close_all, open_stream};
-use crate::io::{Sink, write_all};
 use crate::message::Message;
+use crate::open_streams::{close_all, open_stream};
+use crate::output::write_text;
 use crate::queues::{take_incoming, take_outgoing, take_response};
-use crate::request::{StepFault, count_awaited, read_frames};
+use crate::record_text::RecordText;
+use crate::step_fault::StepFault;
 use bytes::BytesMut;
-use nl_core::{NLMSG_OVERRUN, NetlinkHeader, NetlinkMessage, NetlinkPayload, NoMemory, Octets};
-use proto_core::{Decoded, ExpectResponse, NetlinkCodec, NetlinkMessageCodec, Protocol, Request};
-use session_model::{BatchFrame, Record, Report, RunFault, Settings, SocketAddr};
+use nl_core::{
+    Items, NLMSG_OVERRUN, NetlinkHeader, NetlinkMessage, NetlinkPayload, NoMemory, Octets,
+};
+use proto_core::{
+    Decoded, ExpectResponse, NetlinkCodec, NetlinkMessageCodec, Protocol, Request, read_frame,
+    wants_reply,
+};
+use session_model::{BatchFrame, Mark, Record, Report, RunFault, Settings, SocketAddr};
 use std::alloc::Global;
 use std::collections::BTreeMap;
 use std::mem;
+use transcript_io::Sink;
 
 /// A session after the records that were taken so far.
 #[derive(Drop)]
@@ -47,22 +55,63 @@ fn overrun(alloc: Global) -> NetlinkMessage<Message>
     NetlinkMessage::new(header, NetlinkPayload::Overrun(Octets::new(alloc)))
 }
 
+// Whether a frame awaits a reply.
+fn is_awaited(mark: Mark, header: &NetlinkHeader) -> bool
+    ensures { result ≡ is_awaited_by mark header.now }
+{
+    match mark {
+        Mark::ByFlags => wants_reply(header),
+        Mark::Expected => true,
+        Mark::NotExpected => false,
+    }
+}
+
+// The messages of frames, and which of them await a reply.
+fn read_frames(
+    alloc: Global,
+    frames: &[BatchFrame],
+) -> Result<(Items<NetlinkMessage<Message>>, Items<bool>), NoMemory>
+    ensures messages { IfOk result (λ p. p.0 ≡ messages_in format frames.now) }
+    ensures marks { IfOk result (λ p. p.1 ≡ marks_in format frames.now) }
+{
+    let mut messages = Items::new(alloc);
+    let mut marks = Items::new(alloc);
+    for frame in frames {
+        if let Some(message) = read_frame(alloc, frame.bytes.as_slice())? {
+            marks.push(is_awaited(frame.mark, &message.header))?;
+            messages.push(message)?;
+        }
+    }
+    Ok((messages, marks))
+}
+
+// How many replies are awaited.
+fn count_awaited(marks: &[bool]) -> u64
+    ensures { result ≡ marked marks.now }
+{
+    let mut count = 0;
+    for mark in marks {
+        if *mark {
+            count += 1;
+        }
+    }
+    count
+}
+
 impl Runner {
     ghost use Rattle.session_model.specs.declared.settings.Settings.{Settings};
     ghost use Rattle.session_model.specs.declared.transcript.Record.{Record};
     ghost use Rattle.session_model.specs.declared.transcript.Record.TheVariants.{Batch};
-    ghost use Rattle.session_model.specs.Events.{Event, record_events};
-    ghost use Rattle.session_model.specs.Causes.{refusal};
     ghost use Rattle.session_model.specs.Reported.{report_of};
-    ghost use Rattle.session_steps.specs.Stage.{Brings};
-    ghost use Rattle.mirror.specs.Format.{IsEntry, Message};
-    ghost use Rattle.mirror.specs.Steps.{Advances, Amid, Brought, Counted, Fails, Grows, Keeps, Sends, Tracks, WhyNot, drop_count, line_count, message_count, text_behind, weight};
+    ghost use Rattle.mirror.specs.Format.{IsEntry};
+    ghost use Rattle.mirror.specs.RecordText.{HasNoText};
+    ghost use Rattle.mirror.specs.Runner.{AdvancesOver, AppliesRecord, CountsInRange, Fails, Grows, GrowsAtMost, HasNoCounts, HasSpace, HasSpaceFor, Keeps, OpensStream, ReceivesAll, ReceivesOne, RefusedBy, SendsBatch, TakesRecord, Tracks, added_text, weight};
 
     /// No records so far.
     pub fn new(alloc: Global, settings: &Settings) -> Result<Runner, NoMemory>
         ensures tracks { IfOk result (λ r. Tracks settings.now [] r) }
-        ensures counted { IfOk result (λ r. Counted r) }
-        ensures none { IfOk result (λ r. (line_count r ≡ 0) × (message_count r ≡ 0) × (drop_count r ≡ 0)) }
+        ensures counted { IfOk result (λ r. CountsInRange r) }
+        ensures none { IfOk result (λ r. HasNoCounts r) }
     {
         Ok(Runner {
             alloc,
@@ -77,51 +126,52 @@ impl Runner {
     }
 
     // Takes in a message.
-    fn arrive(
+    fn receive(
         &mut self,
         message: NetlinkMessage<Message>,
         source: SocketAddr,
-        answer: &mut Answer,
+        record_text: &mut RecordText,
     ) -> Result<(), NoMemory>
-        requires { message_count self.old + 1 < 2 ^ 64 }
+        requires { HasSpaceFor 1 self.old }
         ensures settings { self.new.settings ≡ self.old.settings }
         ensures keeps { OnOk result (Keeps self.old self.new) }
-        ensures count { OnOk result ((message_count self.new ≡ message_count self.old + 1) × (self.new.dropped ≡ self.old.dropped)) }
-        ensures step { OnOk result ((s : Settings) (rs : List Record) (es : List (Event Message)) (e : Event Message) → Brings e (record { message = message; source = source } ∷ [])
-            → Amid s rs es self.old answer.old → Amid s rs (es ++ e ∷ []) self.new answer.new) }
+        ensures counts { OnOk result (GrowsAtMost 1 self.old self.new) }
+        ensures step { OnOk result (ReceivesOne message source self.old record_text.old self.new record_text.new) }
     {
         let alloc = self.alloc;
         self.session.reserve(1)?;
         self.session.handle_message(message, source);
-        take_incoming(alloc, &mut self.session, &mut answer.text)?;
+        take_incoming(alloc, &mut self.session, &mut record_text.text)?;
         take_response(
             alloc,
             &self.settings,
             &mut self.session,
             &mut self.open_streams,
-            answer,
+            record_text,
         )?;
         Ok(())
     }
 
     // Takes in what stands at the front of a datagram; whether there was anything.
-    fn take_next(
+    fn receive_next(
         &mut self,
         source: SocketAddr,
         reader: &mut BytesMut,
-        answer: &mut Answer,
+        record_text: &mut RecordText,
     ) -> Result<bool, NoMemory>
-        requires { (message_count self.old + length reader.old.items < 2 ^ 64) × (self.old.dropped + length reader.old.items < 2 ^ 64) }
+        requires { HasSpaceFor (length reader.old.items) self.old }
         ensures settings { self.new.settings ≡ self.old.settings }
         ensures keeps { OnOk result (Keeps self.old self.new) }
-        ensures count { OnOk result ((message_count self.new ≤ message_count self.old + 1) × (self.new.dropped ≤ self.old.dropped + 1)) }
-        ensures shorter { IfOk result (λ more. OnTrue more (length reader.new.items < length reader.old.items)) }
-        ensures step { IfOk result (λ more. OnTrue more ((s : Settings) (rs : List Record) (es : List (Event Message)) → Amid s rs es self.old answer.old
-            → Advances s rs es source reader.old.items reader.new.items self.new answer.new)) }
-        ensures end { IfOk result (λ more. OnFalse more ((reader.old.items ≡ []) × (self.new ≡ self.old) × (answer.new ≡ answer.old))) }
+        ensures counts { OnOk result (GrowsAtMost 1 self.old self.new) }
+        ensures shorter { IfOk result
+            (λ more. OnTrue more (length reader.new.items < length reader.old.items)) }
+        ensures step { IfOk result (λ more. OnTrue more
+            (AdvancesOver source reader.old.items reader.new.items self.old record_text.old self.new record_text.new)) }
+        ensures end { IfOk result (λ more. OnFalse more
+            ((reader.old.items ≡ []) × (self.new ≡ self.old) × (record_text.new ≡ record_text.old))) }
     {
         match NetlinkCodec::decode_next(self.alloc, reader)? {
-            Decoded::Message(message) => self.arrive(message, source, answer)?,
+            Decoded::Message(message) => self.receive(message, source, record_text)?,
             Decoded::Unreadable { .. } | Decoded::Rest { .. } => self.dropped += 1,
             Decoded::Empty => return Ok(false),
         }
@@ -129,39 +179,39 @@ impl Runner {
     }
 
     // Takes in a datagram.
-    fn recv(
+    fn receive_datagram(
         &mut self,
         source: SocketAddr,
         bytes: Octets,
-        answer: &mut Answer,
+        record_text: &mut RecordText,
     ) -> Result<(), NoMemory>
-        requires { (message_count self.old + length bytes < 2 ^ 64) × (self.old.dropped + length bytes < 2 ^ 64) }
+        requires { HasSpaceFor (length bytes) self.old }
         ensures settings { self.new.settings ≡ self.old.settings }
         ensures keeps { OnOk result (Keeps self.old self.new) }
-        ensures count { OnOk result ((message_count self.new ≤ message_count self.old + length bytes) × (self.new.dropped ≤ self.old.dropped + length bytes)) }
-        ensures step { OnOk result ((s : Settings) (rs : List Record) → Amid s rs [] self.old answer.old → Amid s rs (datagram_events format source bytes) self.new answer.new) }
+        ensures counts { OnOk result (GrowsAtMost (length bytes) self.old self.new) }
+        ensures step { OnOk result (ReceivesAll source bytes self.old record_text.old self.new record_text.new) }
     {
         let mut reader = BytesMut::from(bytes.into_vec());
-        while self.take_next(source, &mut reader, answer)? {}
+        while self.receive_next(source, &mut reader, record_text)? {}
         Ok(())
     }
 
     // Sends a batch.
-    fn batch(
+    fn send_batch(
         &mut self,
         to: SocketAddr,
         frames: &[BatchFrame],
-        answer: &mut Answer,
+        record_text: &mut RecordText,
     ) -> Result<(), StepFault>
-        requires room { self.old.streams < 2 ^ 63 }
-        requires fresh { (answer.old.text.items ≡ []) × (answer.old.replies.items ≡ []) × (answer.old.closing.keys ≡ []) }
+        requires space { self.old.streams < 2 ^ 63 }
+        requires fresh { HasNoText record_text.old }
         requires entry { IsEntry (Batch to frames.now) }
+        requires unshut { self.old.closed ≡ false }
         ensures settings { self.new.settings ≡ self.old.settings }
-        ensures kept { OnOk result ((self.new.lines ≡ self.old.lines) × (self.new.closed ≡ self.old.closed)) }
-        ensures counts { OnOk result ((self.new.streams ≡ self.old.streams + 1) × (message_count self.new ≡ message_count self.old) × (self.new.dropped ≡ self.old.dropped)) }
+        ensures opens { OnOk result (OpensStream self.old self.new) }
         ensures numbers { OnOk result (self.new.session.session.last < 2 ^ 32) }
-        ensures step { OnOk result ((s : Settings) (rs : List Record) → Tracks s rs self.old → self.old.closed ≡ false → Sends s rs to frames.now self.new answer.new) }
-        ensures cause { IfErr result (λ e. (s : Settings) (rs : List Record) → Tracks s rs self.old → self.old.closed ≡ false → WhyNot s rs (Batch to frames.now) e) }
+        ensures step { OnOk result (SendsBatch self.old to frames.now self.new record_text.new) }
+        ensures cause { IfErr result (RefusedBy self.old (Batch to frames.now)) }
     {
         let alloc = self.alloc;
         let (messages, marks) = read_frames(alloc, frames)?;
@@ -177,101 +227,97 @@ impl Runner {
             Err((refusal, _)) => return Err(StepFault::from(refusal)),
         }
         self.streams += 1;
-        take_outgoing(alloc, &mut self.session, &mut answer.text)?;
+        take_outgoing(alloc, &mut self.session, &mut record_text.text)?;
         open_stream(
             &mut self.open_streams,
-            &mut answer.closing,
+            &mut record_text.closing,
             self.streams,
             awaited,
         )?;
         Ok(())
     }
 
-    // Takes in what a record brings.
-    fn bring(&mut self, entry: Record, answer: &mut Answer) -> Result<(), StepFault>
+    // Does what a record brings.
+    fn apply(&mut self, entry: Record, record_text: &mut RecordText) -> Result<(), StepFault>
         requires entry { IsEntry entry }
-        requires counted { Counted self.old }
-        requires fresh { (answer.old.text.items ≡ []) × (answer.old.replies.items ≡ []) × (answer.old.closing.keys ≡ []) }
-        requires lines { line_count self.old < 2 ^ 63 }
-        requires messages { message_count self.old < 2 ^ 63 }
-        requires dropped { drop_count self.old < 2 ^ 63 }
+        requires counted { CountsInRange self.old }
+        requires fresh { HasNoText record_text.old }
+        requires space { HasSpace self.old }
         ensures settings { self.new.settings ≡ self.old.settings }
         ensures lines { OnOk result (self.new.lines ≡ self.old.lines) }
         ensures streams { OnOk result (self.new.streams ≤ self.old.streams + 1) }
         ensures numbers { OnOk result (self.new.session.session.last < 2 ^ 32) }
-        ensures messages { OnOk result (message_count self.new ≤ message_count self.old + weight entry) }
-        ensures dropped { OnOk result (self.new.dropped ≤ self.old.dropped + weight entry) }
-        ensures step { OnOk result ((s : Settings) (rs : List Record) → Tracks s rs self.old → IsOrdered nat_cmp answer.new.closing → Brought s rs entry self.new answer.new) }
-        ensures cause { IfErr result (λ e. (s : Settings) (rs : List Record) → Tracks s rs self.old → WhyNot s rs entry e) }
+        ensures counts { OnOk result (GrowsAtMost (weight entry) self.old self.new) }
+        ensures step { OnOk result (AppliesRecord self.old entry self.new record_text.new) }
+        ensures cause { IfErr result (RefusedBy self.old entry) }
     {
         if self.closed {
             return Err(StepFault::Closed);
         }
         match entry {
-            Record::Batch { to, frames } => self.batch(to, frames.as_slice(), answer),
+            Record::Batch { to, frames } => self.send_batch(to, frames.as_slice(), record_text),
             Record::Recv { source, bytes } => {
-                self.recv(source, bytes, answer)?;
+                self.receive_datagram(source, bytes, record_text)?;
                 Ok(())
             }
             Record::Overrun => {
-                self.arrive(overrun(self.alloc), SocketAddr::new(0, 0), answer)?;
+                self.receive(overrun(self.alloc), SocketAddr::new(0, 0), record_text)?;
                 Ok(())
             }
             Record::Close => {
                 self.closed = true;
                 let open_streams = mem::replace(&mut self.open_streams, BTreeMap::new(self.alloc));
-                close_all(open_streams, &mut answer.text)?;
+                close_all(open_streams, &mut record_text.text)?;
                 Ok(())
             }
         }
     }
 
     // Takes a record; its text.
-    fn take(&mut self, entry: Record) -> Result<Vec<u8>, StepFault>
+    fn take_record(&mut self, entry: Record) -> Result<Vec<u8>, StepFault>
         requires entry { IsEntry entry }
-        requires counted { Counted self.old }
-        requires lines { line_count self.old < 2 ^ 63 }
-        requires messages { message_count self.old < 2 ^ 63 }
-        requires dropped { drop_count self.old < 2 ^ 63 }
+        requires counted { CountsInRange self.old }
+        requires space { HasSpace self.old }
         ensures settings { self.new.settings ≡ self.old.settings }
-        ensures counted { OnOk result (Counted self.new) }
+        ensures counted { OnOk result (CountsInRange self.new) }
         ensures grows { OnOk result (Grows entry self.old self.new) }
-        ensures step { IfOk result (λ text. (s : Settings) (rs : List Record) → Tracks s rs self.old → Tracks s (rs ++ entry ∷ []) self.new × (text.items ≡ text_behind s rs entry)) }
-        ensures cause { IfErr result (λ e. (s : Settings) (rs : List Record) → Tracks s rs self.old → WhyNot s rs entry e) }
+        ensures step { IfOk result (λ text. TakesRecord self.old entry self.new text.items) }
+        ensures cause { IfErr result (RefusedBy self.old entry) }
     {
-        let mut answer = Answer::new(self.alloc);
-        self.bring(entry, &mut answer)?;
+        let mut record_text = RecordText::new(self.alloc);
+        self.apply(entry, &mut record_text)?;
         self.lines += 1;
-        Ok(answer.into_text()?)
+        Ok(record_text.into_text()?)
     }
 
     /// Takes a record and appends its text to a sink. Closed, SequenceExhausted and Unfit come exactly where the record
-    /// isn't taken behind those before it, with the place that is handed in, and then nothing is written. WriteFault
-    /// comes only where the sink's count of faults rose in this call; after it or NoMemory the sink has gained some front
-    /// of the record's text. After any fault the runner takes no more.
+    /// isn't taken after those before it, with the place that is handed in, and then nothing is written. WriteFault
+    /// comes only where the sink's count of faults rose in this call; after it or NoMemory the sink has gained some first
+    /// bytes of the record's text. The condition `counted` says that no earlier step has failed: after any fault the
+    /// runner takes no more. It holds of a new runner, and after each step that was Ok.
     pub fn step<K: Sink>(&mut self, at: u64, line: Record, out: &mut K) -> Result<(), RunFault>
         requires entry { IsEntry line }
-        requires counted { Counted self.old }
-        requires lines { line_count self.old < 2 ^ 63 }
-        requires messages { message_count self.old < 2 ^ 63 }
-        requires dropped { drop_count self.old < 2 ^ 63 }
+        requires counted { CountsInRange self.old }
+        requires space { HasSpace self.old }
         ensures settings { self.new.settings ≡ self.old.settings }
-        ensures counted { OnOk result (Counted self.new) }
+        ensures counted { OnOk result (CountsInRange self.new) }
         ensures grows { OnOk result (Grows line self.old self.new) }
         ensures ok { OnOk result ((s : Settings) (rs : List Record) → Tracks s rs self.old
-            → Tracks s (rs ++ line ∷ []) self.new × (K.written out.new ≡ with_back (K.written out.old) (text_behind s rs line))) }
-        ensures fails { IfErr result (λ e. (s : Settings) (rs : List Record) → Tracks s rs self.old → Fails s rs line at (K.written out.old) (K.written out.new) e) }
-        ensures only { IfErr result IsStepping }
+            → Tracks s (rs ++ line ∷ []) self.new
+            × (K.written out.new ≡ with_back (K.written out.old) (added_text s rs line))) }
+        ensures fails { IfErr result (λ e. (s : Settings) (rs : List Record) → Tracks s rs self.old
+            → Fails s rs line at (K.written out.old) (K.written out.new) e) }
+        ensures only { IfErr result IsStepFault }
         ensures write_cause { result ≡ Err RunFault.WriteFault → HasRisen (K.faults out.old) (K.faults out.new) }
         ensures later { K.faults out.old ≤ K.faults out.new }
     {
-        match self.take(line) {
-            Ok(text) => write_all(out, text.as_slice()),
+        match self.take_record(line) {
+            Ok(text) => write_text(out, text.as_slice()),
             Err(fault) => Err(fault.at(at)),
         }
     }
 
-    /// What there is to tell of the records that were taken.
+    /// What there is to report of the records that were taken.
     pub fn report(&self) -> Report
         ensures { (s : Settings) (rs : List Record) → Tracks s rs self.now → result ≡ report_of format s rs }
     {

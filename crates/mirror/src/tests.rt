@@ -1,16 +1,14 @@
-// The program and its sources and sinks, by tables of transcripts. The frames are RTM_GETROUTE requests (a dump, and one that
-// asks for an acknowledgement), an RTM_NEWROUTE reply, and the kernel's NLMSG_DONE and NLMSG_ERROR answers.
+//! The program by tables of transcripts, its words and its settings, and faults of its source and sink.
 ghost use Rattle.std.specs.Prelude.{◌≤◌};
 
 mod messages;
 mod sessions;
 
-use crate::{
-    MemorySink, MemorySource, Read, Report, RunFault, Settings, Sink, Source, StdSink, StdSource,
-    Wrote, cli, run,
-};
+use self::sessions::check_row;
+use crate::{MemorySink, MemorySource, Read, Report, RunFault, Settings, Source, cli, run};
+use rt_dispatch::RouteNetlinkMessage;
+use session_model::text_grows;
 use std::alloc::{AllocError, Global};
-use std::io;
 use std::test::Fail;
 
 // A dump that the peer ends at once, and its text.
@@ -22,28 +20,12 @@ const SENT: &str = "sent 0 0 1c0000001a00010301000000000000000000000000000000000
 const SENT_AND_CLOSED: &str =
     "sent 0 0 1c0000001a0001030100000000000000000000000000000000000000\nclosed 1\n";
 
+// The same with its end forwarded.
+const REPLIED: &str =
+    "sent 0 0 1c0000001a0001030100000000000000000000000000000000000000\nreply 1 1 3 2 1 0 00000000\nclosed 1\n";
+
 const DUMP_TOLD: &str =
     "sent 0 0 1c0000001a0001030100000000000000000000000000000000000000\nclosed 1\nok 2 1 0 0 no\n";
-
-// An acknowledged request.
-const ACKNOWLEDGED: &str =
-    "batch 0 0 e:1c0000001a0005000000000000000000000000000000000000000000\nrecv 0 0 1c000000180000000100000000000000000000000000000000000000\nrecv 0 0 1400000002000000010000000000000000000000\n";
-
-const ACKNOWLEDGED_TOLD: &str =
-    "sent 0 0 1c0000001a0005000100000000000000000000000000000000000000\nreply 1 1 24 0 1 0 000000000000000000000000\nclosed 1\nok 3 2 0 0 no\n";
-
-// A dump that a wrong port seems to end first. The header's port isn't looked at.
-const WRONG_PORT: &str =
-    "batch 0 0 e:1c0000001a0001030000000000000000000000000000000000000000\nrecv 7 0 1400000003000200010000000000000000000000\nrecv 0 0 1400000003000200010000000700000000000000\n";
-
-const WRONG_PORT_TOLD: &str =
-    "sent 0 0 1c0000001a0001030100000000000000000000000000000000000000\nunsol 1 7 0 3 2 1 0 00000000\nclosed 1\nok 3 2 0 0 no\n";
-
-// Lines that are no records.
-const UPPER_CASE: &str = "batch 0 0 e:1C0000001a0001030000000000000000000000000000000000000000\n";
-
-const UNFINISHED: &str =
-    "batch 0 0 e:1c0000001a0001030000000000000000000000000000000000000000\nrecv 0 0 14";
 
 fn strings(alloc: Global, words: &[&str]) -> Result<Vec<String>, AllocError> {
     let mut strings = Vec::new(alloc);
@@ -66,28 +48,22 @@ fn sink(alloc: Global, piece: usize, fail: &[u64]) -> Result<MemorySink, AllocEr
     Ok(MemorySink::new(alloc, piece, fail.to_vec(alloc)?))
 }
 
+// Each row has its status and its text, in whatever pieces it is read and written.
 #[test]
-fn transcripts_are_told(rt: HostRuntime) -> Result<(), Fail> {
-    let alloc = rt.alloc();
-    let words = strings(alloc, &["run"])?;
-    let rows = [
-        ("", 0, "ok 0 0 0 0 no\n"),
-        (DUMP, 0, DUMP_TOLD),
-        (ACKNOWLEDGED, 0, ACKNOWLEDGED_TOLD),
-        (WRONG_PORT, 0, WRONG_PORT_TOLD),
-        (UPPER_CASE, 2, ""),
-        (UNFINISHED, 2, SENT),
+fn transcripts_are_run(rt: HostRuntime) -> Result<(), Fail> {
+    text_grows::<RouteNetlinkMessage>();
+    let tables = [
+        sessions::TRANSCRIPTS.as_slice(),
+        &sessions::BATCHES,
+        &sessions::REPLIES,
+        &sessions::DATAGRAMS,
+        &sessions::CLOSES,
+        &sessions::BOUNDARIES,
+        &messages::MESSAGES,
     ];
-    for (input, status, text) in rows {
-        for piece in [1, 7, 100_000] {
-            let mut input = source(alloc, input, piece, &[])?;
-            let mut out = sink(alloc, piece, &[])?;
-            assert_eq!(rt;
-                cli(alloc, words.as_slice(), &mut input, &mut out),
-                status,
-                "at {text}"
-            );
-            assert_eq!(rt; out.bytes(), text.as_bytes(), "at {text}");
+    for rows in tables {
+        for row in rows {
+            check_row(&rt, rt.alloc(), row)?;
         }
     }
     Ok(())
@@ -119,74 +95,63 @@ fn other_words_read_and_write_nothing(rt: HostRuntime) -> Result<(), Fail> {
     Ok(())
 }
 
-// A run over the dump.
-fn run_dump(
-    alloc: Global,
-    settings: &Settings,
-) -> Result<(Result<Report, RunFault>, MemorySink), AllocError> {
-    let mut input = source(alloc, DUMP, 50, &[])?;
-    let mut out = sink(alloc, 50, &[])?;
-    Ok((run(alloc, &mut input, &mut out, settings), out))
-}
-
+// The dump under other settings: what a run answers, and the text that it leaves.
 #[test]
 fn settings_are_followed(rt: HostRuntime) -> Result<(), Fail> {
     let alloc = rt.alloc();
-    let told = Report {
+    let usual = Settings::usual();
+    let report = Report {
         lines: 2,
         messages: 1,
         dropped: 0,
         still_open: 0,
         in_step: false,
     };
-    let usual = Settings::usual();
-    let (result, out) = run_dump(
-        alloc,
-        &Settings {
-            limit: 119,
-            ..usual
-        },
-    )?;
-    assert_eq!(rt; result, Ok(told));
-    assert_eq!(rt; out.bytes(), SENT_AND_CLOSED.as_bytes());
-
-    let (result, out) = run_dump(
-        alloc,
-        &Settings {
-            limit: 118,
-            ..usual
-        },
-    )?;
-    assert_eq!(rt; result, Err(RunFault::Limit));
-    assert_eq!(rt; out.bytes(), SENT.as_bytes());
-
-    let last = u32::MAX;
-    let (result, out) = run_dump(
-        alloc,
-        &Settings {
-            start: last,
-            ..usual
-        },
-    )?;
-    assert_eq!(rt; result, Err(RunFault::SequenceExhausted { at: 0 }));
-    assert_eq!(rt; out.bytes(), b"".as_slice());
-
     let all = Settings {
         forward_noop: true,
         forward_done: true,
         forward_ack: true,
         ..usual
     };
-    let (result, out) = run_dump(alloc, &all)?;
-    assert_eq!(rt; result, Ok(told));
-    let text =
-        "sent 0 0 1c0000001a0001030100000000000000000000000000000000000000\nreply 1 1 3 2 1 0 00000000\nclosed 1\n";
-    assert_eq!(rt; out.bytes(), text.as_bytes());
+    let used_up = Settings {
+        start: u32::MAX,
+        ..usual
+    };
+    let rows = [
+        (
+            Settings {
+                limit: 119,
+                ..usual
+            },
+            Ok(report),
+            SENT_AND_CLOSED,
+        ),
+        (
+            Settings {
+                limit: 118,
+                ..usual
+            },
+            Err(RunFault::Limit),
+            SENT,
+        ),
+        (used_up, Err(RunFault::SequenceExhausted { at: 0 }), ""),
+        (all, Ok(report), REPLIED),
+    ];
+    for (settings, result, text) in rows {
+        let mut input = source(alloc, DUMP, 50, &[])?;
+        let mut out = sink(alloc, 50, &[])?;
+        assert_eq!(rt;
+            run(alloc, &mut input, &mut out, &settings),
+            result,
+            "at {text}"
+        );
+        assert_eq!(rt; out.bytes(), text.as_bytes(), "at {text}");
+    }
     Ok(())
 }
 
 #[test]
-fn faults_of_source_and_sink_are_told(rt: HostRuntime) -> Result<(), Fail> {
+fn faults_of_source_and_sink_are_reported(rt: HostRuntime) -> Result<(), Fail> {
     let alloc = rt.alloc();
     let words = strings(alloc, &["run"])?;
 
@@ -222,59 +187,5 @@ fn faults_of_source_and_sink_are_told(rt: HostRuntime) -> Result<(), Fail> {
         assert!(rt; out.bytes().len() == count, "at {call}");
         assert!(rt; DUMP_TOLD.as_bytes().starts_with(out.bytes()), "at {call}");
     }
-    Ok(())
-}
-
-#[test]
-fn memory_moves_pieces(rt: HostRuntime) -> Result<(), Fail> {
-    let alloc = rt.alloc();
-    let mut input = source(alloc, "abcde", 2, &[2])?;
-    let mut buffer = [0; 3];
-    for want in [
-        Read::Got(2),
-        Read::Failed,
-        Read::Got(2),
-        Read::Got(1),
-        Read::End,
-        Read::End,
-    ] {
-        assert_eq!(rt; input.read(&mut buffer), want);
-    }
-    assert_eq!(rt; buffer.as_slice(), b"ed\0".as_slice());
-    let mut out = sink(alloc, 2, &[2])?;
-    for want in [Wrote::Took(2), Wrote::Failed, Wrote::Took(2)] {
-        assert_eq!(rt; out.write(b"xyz"), want);
-    }
-    assert_eq!(rt; out.bytes(), b"xyxy".as_slice());
-    Ok(())
-}
-
-// A writer that has no room.
-#[derive(Drop)]
-struct Full;
-
-impl io::Write for Full {
-    fn write(&mut self, _: &[u8]) -> io::Result<usize> {
-        Ok(0)
-    }
-
-    fn flush(&mut self) -> io::Result<()> {
-        Ok(())
-    }
-}
-
-#[test]
-fn readers_and_writers_are_taken(rt: HostRuntime) -> Result<(), Fail> {
-    let alloc = rt.alloc();
-    let mut input = StdSource::new(b"abc".as_slice());
-    let mut buffer = [0; 2];
-    for want in [Read::Got(2), Read::Got(1), Read::End] {
-        assert_eq!(rt; input.read(&mut buffer), want);
-    }
-    assert_eq!(rt; buffer.as_slice(), b"cb".as_slice());
-    let mut text = Vec::new(alloc);
-    assert_eq!(rt; StdSink::new(&mut text).write(b"xyz"), Wrote::Took(3));
-    assert_eq!(rt; text.as_slice(), b"xyz".as_slice());
-    assert_eq!(rt; StdSink::new(Full).write(b"xyz"), Wrote::Failed);
     Ok(())
 }

@@ -2,19 +2,31 @@
 #![tactic(auto)]
 
 use mirror::{StdSink, StdSource, cli};
+use std::env;
+use std::io::{self, ErrorKind};
 use std::process::ExitCode;
-use std::{env, io};
 
-// The status of want of memory, here for the words themselves.
+// The status of words that are not the program's.
+const OTHER_WORDS: u8 = 1;
+
+// The status of a run that is out of memory, here for the words themselves.
 const NO_MEMORY: u8 = 9;
 
-// The words behind the program's own name.
+// The words after the program's own name. Words that are no UTF-8 are an error.
 fn words(rt: &HostRuntime) -> io::Result<Vec<String>> {
     let mut words = Vec::new(rt.alloc());
     for word in env::args(rt)?.skip(1) {
         words.push(word)?;
     }
     Ok(words)
+}
+
+// The status where the words could not be had: words that are no UTF-8 are other words.
+fn status_of(error: &io::Error) -> u8 {
+    match error.kind() {
+        ErrorKind::OutOfMemory => NO_MEMORY,
+        _ => OTHER_WORDS,
+    }
 }
 
 // What a status means, where it is no success.
@@ -41,7 +53,7 @@ fn main(rt: HostRuntime) -> ExitCode {
     let mut out = StdSink::new(rt.stdout());
     let status = match words(&rt) {
         Ok(words) => cli(rt.alloc(), words.as_slice(), &mut input, &mut out),
-        Err(_) => NO_MEMORY,
+        Err(error) => status_of(&error),
     };
     if let Some(text) = meaning(status) {
         // A message that can't be written changes no status.

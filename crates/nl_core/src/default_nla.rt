@@ -2,13 +2,14 @@
 #![tactic(auto, using(crate::proofs::Wire::writes))]
 
 ghost use Rattle.std.specs.Prelude.{◌≡◌, Ok};
-ghost use Rattle.nl_core.specs.Attribute.{is_checked, default_at};
+ghost use Rattle.nl_core.specs.Attribute.{default_at};
 
 use crate::error::{DecodeError, NoMemory};
-use crate::lists::{CloneWith, Octets};
+use crate::lists::Octets;
 use crate::nla::{Nla, NlaBuffer};
 use crate::numbers::emit_bytes;
 use crate::parseable::Parseable;
+use crate::try_clone::TryClone;
 use std::alloc::Global;
 
 /// An attribute of any type, its value as it stands.
@@ -30,8 +31,6 @@ impl DefaultNla {
 }
 
 impl<'a> Parseable<NlaBuffer<'a>> for DefaultNla {
-    ghost readable = { is_checked };
-
     ghost reads = { λ bytes. Ok (default_at bytes) };
 
     fn parse(alloc: Global, buf: &NlaBuffer<'a>) -> Result<Self, DecodeError> {
@@ -58,7 +57,7 @@ impl Nla for DefaultNla {
     }
 }
 
-impl CloneWith for DefaultNla {
+impl TryClone for DefaultNla {
     fn clone_with(&self) -> Result<Self, NoMemory> {
         let value = self.value.clone_with()?;
         Ok(DefaultNla::new(self.kind, value))

@@ -11,15 +11,22 @@ ghost use Rattle.nl_core.specs.Attribute.{attribute_text, attribute_fits, padded
 use crate::emitable::{Emitable, put};
 use crate::error::DecodeError;
 use crate::numbers::{emit_u16, put_u16, put_zeros, u16_at};
+use crate::parseable::Readable;
 use std::marker::Model;
 
 /// The length in bytes of an attribute's header.
-pub const HEADER_LEN: usize = 4;
+pub const NLA_HEADER_LEN: usize = 4;
 
-/// The longest value: with its header it is as long as the length field can tell.
-pub const MOST_VALUE: usize = 65_531;
+/// The length in bytes of the longest value: with its header the most that a length field can say.
+pub const LONGEST_VALUE: usize = 65_531;
 
-const KIND_BITS: u16 = 0x4000;
+/// The bit of a type that says that the value is a list of attributes, of
+/// include/uapi/linux/netlink.h as the next two.
+pub const NLA_F_NESTED: u16 = 0x8000;
+/// The bit of a type that says that the value is in network byte order.
+pub const NLA_F_NET_BYTEORDER: u16 = 0x4000;
+/// The bits of a type without its two flag bits.
+pub const NLA_TYPE_MASK: u16 = 0x3fff;
 
 /// An attribute that is written.
 pub trait Nla {
@@ -65,19 +72,19 @@ impl<N: Nla> Emitable for N {
     ghost fitting = { λ n. attribute_fits (N.value_text n) };
 
     fn fits(&self) -> bool {
-        self.value_len() <= MOST_VALUE
+        self.value_len() <= LONGEST_VALUE
     }
 
     fn buffer_len(&self) -> usize {
-        HEADER_LEN + align(self.value_len())
+        NLA_HEADER_LEN + align(self.value_len())
     }
 
     fn emit(&self, buf: &mut [u8]) {
         let len = self.value_len();
-        emit_u16(buf, (HEADER_LEN + len) as u16);
+        emit_u16(buf, (NLA_HEADER_LEN + len) as u16);
         put_u16(buf, 2, self.kind());
-        put_value(self, buf, HEADER_LEN);
-        put_zeros(buf, HEADER_LEN + len, align(len) - len);
+        put_value(self, buf, NLA_HEADER_LEN);
+        put_zeros(buf, NLA_HEADER_LEN + len, align(len) - len);
     }
 }
 
@@ -93,6 +100,10 @@ impl<'a> Model for NlaBuffer<'a> {
     ghost view = { λ n. n.bytes.now };
 }
 
+impl<'a> Readable for NlaBuffer<'a> {
+    ghost readable = { is_checked };
+}
+
 impl<'a> NlaBuffer<'a> {
     /// The bytes, whatever stands at their front.
     pub fn new(bytes: &'a [u8]) -> Self
@@ -106,11 +117,11 @@ impl<'a> NlaBuffer<'a> {
     pub fn new_checked(bytes: &'a [u8]) -> Result<Self, DecodeError>
         ensures { result ≡ checked bytes.now }
     {
-        if bytes.len() < HEADER_LEN {
+        if bytes.len() < NLA_HEADER_LEN {
             return Err(DecodeError::BadAttribute);
         }
         let len = u16_at(bytes, 0) as usize;
-        if len < HEADER_LEN || bytes.len() < len {
+        if len < NLA_HEADER_LEN || bytes.len() < len {
             return Err(DecodeError::BadAttribute);
         }
         Ok(NlaBuffer { bytes })
@@ -128,10 +139,10 @@ impl<'a> NlaBuffer<'a> {
         requires { is_checked self.now ≡ true }
         ensures { result ≡ kind_of self.now }
     {
-        u16_at(self.bytes, 2) % KIND_BITS
+        u16_at(self.bytes, 2) & NLA_TYPE_MASK
     }
 
-    /// The type with its flag bits: 0x8000 nested, 0x4000 in network order.
+    /// The type with its flag bits, `NLA_F_NESTED` and `NLA_F_NET_BYTEORDER`.
     pub fn raw_kind(&self) -> u16
         requires { is_checked self.now ≡ true }
         ensures { result ≡ raw_kind_of self.now }
@@ -145,11 +156,11 @@ impl<'a> NlaBuffer<'a> {
         ensures { result.now ≡ value_of self.now }
     {
         let len = u16_at(self.bytes, 0) as usize;
-        &self.bytes[HEADER_LEN..len]
+        &self.bytes[NLA_HEADER_LEN..len]
     }
 
     /// What follows the attribute and its padding, which may be cut short.
-    pub fn behind(&self) -> &'a [u8]
+    pub fn after(&self) -> &'a [u8]
         requires { is_checked self.now ≡ true }
         ensures value { result.now ≡ after self.now }
         ensures shorter { length result.now < length self.now }

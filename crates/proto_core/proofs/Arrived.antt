@@ -3,7 +3,7 @@ use Rattle.std.proofs.Common.{◌≡◌, ◌+◌, ◌<◌, ◌==◌, ◌&&◌, �
 use Rattle.std.specs.List.{filter, AllByRecursion}
 use Rattle.session_model.specs.declared.awaited.Awaited.{Awaited}
 use Rattle.session_model.specs.Events.{Arrival}
-use Rattle.session_model.specs.Awaited.{first_bearing, after_arrival, ends, is_last}
+use Rattle.session_model.specs.Awaited.{first_awaiting, after_arrival, ends, is_last}
 use Rattle.proto_core.specs.Numbers.{AreBelow, IsAscending, is_awaited, without}
 use Rattle.proto_core.specs.Session.{Session, Continues, replied, arrived_at, awaiting, handled, place_of}
 use Rattle.proto_core.specs.declared.messages.Handled.{Handled}
@@ -40,6 +40,7 @@ module _ {M : Type 0} where
     | false ↦ AreBelow_filter n test ws h.1
   ]
 
+  -- What is awaited stays below a bound when a number is settled.
   pub below_step : (n number : ℕ) (d : Bool) (before ws : List (Awaited M)) → AreBelow n before → ws ≡ cond d (without number before) before → AreBelow n ws
   below_step n number d before ws h e = rw e (elim d as (λ b. AreBelow n (cond b (without number before) before)) [
     | true ↦ AreBelow_filter n (λ w. not (w.number == number)) before h
@@ -55,25 +56,25 @@ module _ {T M : Type 0} (a : Arrival T) where
       rw apart (ap (λ vs. w ∷ vs) (after_arrival-above ws h.1))
 
   -- An arrival ends what awaits it, and nothing else.
-  after_arrival-bearing : (ws : List (Awaited M)) (v : Awaited M) → IsAscending ws → first_bearing a.message.header.sequence_number a.source.port ws ≡ Some v
+  after_arrival-bearing : (ws : List (Awaited M)) (v : Awaited M) → IsAscending ws → first_awaiting a.message.header.sequence_number a.source.port ws ≡ Some v
       → after_arrival a ws ≡ cond (is_last a.message v.acks) (without a.message.header.sequence_number ws) ws
   after_arrival-bearing [] v h e = cc
   after_arrival-bearing (w ∷ ws) v h e =
       let n = a.message.header.sequence_number in
       let p = a.source.port in
-      elim (w.number == n) as (λ b. (w.number == n) ≡ b → cond (b && (w.port == p)) (Some w) (first_bearing n p ws) ≡ Some v
+      elim (w.number == n) as (λ b. (w.number == n) ≡ b → cond (b && (w.port == p)) (Some w) (first_awaiting n p ws) ≡ Some v
       → cond (not ((b && (w.port == p)) && is_last a.message w.acks)) (w ∷ after_arrival a ws) (after_arrival a ws)
       ≡ cond (is_last a.message v.acks) (cond (not b) (w ∷ without n ws) (without n ws)) (w ∷ ws)) [
         | true ↦ λ is f.
             let above : AllByRecursion (λ (u : Awaited M). n < u.number) ws = subst (λ k. AllByRecursion (λ (u : Awaited M). k < u.number) ws) (same_number w.number n is) h.0 in
-            elim (w.port == p) as (λ c. cond c (Some w) (first_bearing n p ws) ≡ Some v
+            elim (w.port == p) as (λ c. cond c (Some w) (first_awaiting n p ws) ≡ Some v
             → cond (not (c && is_last a.message w.acks)) (w ∷ after_arrival a ws) (after_arrival a ws) ≡ cond (is_last a.message v.acks) (without n ws) (w ∷ ws)) [
               | true ↦ λ g.
                   let same : w ≡ v = cc in
                   subst (λ (u : Awaited M). cond (not (is_last a.message w.acks)) (w ∷ after_arrival a ws) (after_arrival a ws) ≡ cond (is_last a.message u.acks) (without n ws) (w ∷ ws)) same
                   (rw (after_arrival-above ws above, without-above n ws above)
                   (elim (is_last a.message w.acks) as (λ d. cond (not d) (w ∷ ws) ws ≡ cond d ws (w ∷ ws)) [ true ↦ refl | false ↦ refl ]))
-              | false ↦ λ g. let none : first_bearing n p ws ≡ None = none_above n p ws above in cc
+              | false ↦ λ g. let none : first_awaiting n p ws ≡ None = none_above n p ws above in cc
             ] f
         | false ↦ λ is f.
             rw (after_arrival-bearing ws v h.1 f)
@@ -95,6 +96,7 @@ module _ {T M : Type 0} (a : Arrival T) where
       let left : ws ≡ after_arrival a s.awaited = is ∙ (ap (λ b. cond b (without a.message.header.sequence_number s.awaited) s.awaited) (sym last) ∙ sym (after_arrival-bearing s.awaited w h e)) in
       rw (left, ← last, ← tag) refl
 
+  -- A reply makes the session that an arrival makes.
   pub reply_arrived : (s : Session T M) (m : M) (d : Bool) (ws : List (Awaited M)) → IsAscending s.awaited → place_of a (awaiting a s) ≡ Reply m d
       → ws ≡ cond d (without a.message.header.sequence_number s.awaited) s.awaited
       → record s {
@@ -110,6 +112,7 @@ module _ {T M : Type 0} (a : Arrival T) where
   unsolicited_replied s None place = refl
   unsolicited_replied s (Some w) place = cc
 
+  -- An unsolicited message makes the session that an arrival makes.
   pub unsolicited_arrived : (s : Session T M) → place_of a (awaiting a s) ≡ Unsolicited
       → record s { arrived = s.arrived + 1; incoming = s.incoming ++ record { message = a.message; source = a.source; arrival = s.arrived + 1 } ∷ [] } ≡ arrived_at a s
   unsolicited_arrived s place = unsolicited_replied s (awaiting a s) place
@@ -118,6 +121,7 @@ module _ {T M : Type 0} (a : Arrival T) where
   continues_replied s None = record { rises = omega arith; stays_ended = λ n h e. e }
   continues_replied s (Some w) = record { rises = omega arith; stays_ended = λ n h e. filter_ended n (λ u. not (ends a u)) s.awaited e }
 
+  -- After an arrival no number is used again.
   pub continues_arrived : (s : Session T M) → Continues s (arrived_at a s)
   continues_arrived s = continues_replied s (awaiting a s)
 
@@ -128,11 +132,13 @@ module _ {T M : Type 0} (a : Arrival T) where
       let last : is_last a.message w.acks ≡ true = cc in
       rw (after_arrival-bearing s.awaited w h e, last) (is_awaited-without a.message.header.sequence_number s.awaited)
 
+  -- After the last reply its number is awaited no longer.
   pub ended_arrived : (s : Session T M) (m : M) → IsAscending s.awaited → place_of a (awaiting a s) ≡ Reply m true
       → is_awaited a.message.header.sequence_number (arrived_at a s).awaited ≡ false
   ended_arrived s m h place = ended_replied s (awaiting a s) m h refl place
 
   -- ---- what the calls of a step give, over the session as it was opened
+  -- The step by a reply, over the session as it was opened.
   pub reply_step : (opened s : Session T M) (h : Handled M) (m : M) (d : Bool) (ws : List (Awaited M)) (rs : List (Response T M)) → opened ≡ s → IsAscending s.awaited → h ≡ handled a s → h.to ≡ Reply m d
       → ws ≡ cond d (without a.message.header.sequence_number opened.awaited) opened.awaited
       → rs ≡ opened.responses ++ record { done = d; message = a.message; metadata = m; arrival = h.arrival } ∷ []
@@ -142,6 +148,7 @@ module _ {T M : Type 0} (a : Arrival T) where
       let left : ws ≡ cond d (without a.message.header.sequence_number s.awaited) s.awaited = is ∙ ap (λ (o : Session T M). cond d (without a.message.header.sequence_number o.awaited) o.awaited) view in
       rw (queue, view, e) (reply_arrived s m d ws asc place left)
 
+  -- The step by an unsolicited message, over the session as it was opened.
   pub unsolicited_step : (opened s : Session T M) (h : Handled M) (is : List (Incoming T)) → opened ≡ s → h ≡ handled a s → h.to ≡ Unsolicited
       → is ≡ opened.incoming ++ record { message = a.message; source = a.source; arrival = h.arrival } ∷ []
       → record opened { arrived = h.arrival; incoming = is } ≡ arrived_at a s
@@ -149,9 +156,11 @@ module _ {T M : Type 0} (a : Arrival T) where
       let place : place_of a (awaiting a s) ≡ Unsolicited = ap (λ (k : Handled M). k.to) (sym e) ∙ to in
       rw (queue, view, e) (unsolicited_arrived s place)
 
+  -- No number is used again, over the session after the step.
   pub continues_step : (s now : Session T M) → now ≡ arrived_at a s → Continues s now
   continues_step s now e = rw e (continues_arrived s)
 
+  -- The last reply ends its number, over the session after the step.
   pub ended_step : (s now : Session T M) (h : Handled M) (m : M) → now ≡ arrived_at a s → IsAscending s.awaited → h ≡ handled a s → h.to ≡ Reply m true
       → is_awaited a.message.header.sequence_number now.awaited ≡ false
   ended_step s now h m e asc is to = rw e (ended_arrived s m asc (ap (λ (k : Handled M). k.to) (sym is) ∙ to))

@@ -10,7 +10,7 @@ use Rattle.std.specs.Map.{keys_of, lookup, remove_entry}
 use Rattle.std.proofs.lemmas.Bool.Decides.{nat_tests}
 use Rattle.std.proofs.lemmas.Map.Keys.{sorted_head, sorted_tail}
 use Rattle.session_model.specs.declared.awaited.Awaited.{Awaited}
-use Rattle.session_model.specs.Awaited.{first_bearing}
+use Rattle.session_model.specs.Awaited.{first_awaiting}
 use Rattle.proto_core.specs.declared.pending.Pending.{Pending}
 use Rattle.proto_core.specs.Numbers.{IsAscending, without}
 use Rattle.proto_core.specs.Pending.{awaited_of, listed}
@@ -24,9 +24,11 @@ greater_from_below a b h = grind (arith, nat_tests)
 is_eq-nat_cmp : (a b : ℕ) → is_eq (nat_cmp a b) ≡ (b == a)
 is_eq-nat_cmp a b = grind (arith, nat_tests)
 
+-- A number above another is not that number.
 pub apart_from_below : (a b : ℕ) → a < b → (b == a) ≡ false
 apart_from_below a b h = grind (arith, nat_tests)
 
+-- Numbers that pass the test are equal.
 pub same_number : (a b : ℕ) → (a == b) ≡ true → a ≡ b
 same_number a b h = grind (arith, nat_tests)
 
@@ -38,7 +40,8 @@ module _ {M : Type 0} where
       let apart : (w.number == n) ≡ false = apart_from_below n w.number h.0 in
       rw apart (ap (λ vs. w ∷ vs) (without-above n ws h.1))
 
-  pub none_above : (n p : ℕ) (ws : List (Awaited M)) → AllByRecursion (λ (w : Awaited M). n < w.number) ws → first_bearing n p ws ≡ None
+  -- Nothing is found under a number that all others are above.
+  pub none_above : (n p : ℕ) (ws : List (Awaited M)) → AllByRecursion (λ (w : Awaited M). n < w.number) ws → first_awaiting n p ws ≡ None
   none_above n p [] h = refl
   none_above n p (w ∷ ws) h =
       let apart : (w.number == n) ≡ false = apart_from_below n w.number h.0 in
@@ -69,52 +72,58 @@ module _ {M : Type 0} where
         | false ↦ λ is. ap (λ ws. awaited_of e ∷ ws) (listed-remove_entry es k h.1)
       ] refl)
 
-  -- what a look-up by number finds, if it came to the port
+  -- What a look-up by number finds, if it came to the port.
   abbrev pub found : ℕ → Option (Pending M) → ℕ → Option (Awaited M)
   found n None p = None
   found n (Some v) p = cond (v.port == p) (Some (awaited_of (n, v))) None
 
   -- The look-up by number, and then the test of the port.
-  pub first_bearing-listed : (es : List (ℕ × Pending M)) (n p : ℕ) → IsAscending (listed es) → first_bearing n p (listed es) ≡ found n (lookup (is_at (nat_cmp n)) es) p
-  first_bearing-listed [] n p h = refl
-  first_bearing-listed (e ∷ es) n p h =
+  pub first_awaiting-listed : (es : List (ℕ × Pending M)) (n p : ℕ) → IsAscending (listed es) → first_awaiting n p (listed es) ≡ found n (lookup (is_at (nat_cmp n)) es) p
+  first_awaiting-listed [] n p h = refl
+  first_awaiting-listed (e ∷ es) n p h =
       rw (is_eq-nat_cmp n e.0) (elim (e.0 == n) as (λ b. (e.0 == n) ≡ b
-      → first_bearing n p (awaited_of e ∷ listed es) ≡ found n (cond b (Some e.1) (lookup (is_at (nat_cmp n)) es)) p) [
+      → first_awaiting n p (awaited_of e ∷ listed es) ≡ found n (cond b (Some e.1) (lookup (is_at (nat_cmp n)) es)) p) [
         | true ↦ λ is.
-            let none : first_bearing n p (listed es) ≡ None = subst (λ m. first_bearing m p (listed es) ≡ None) (same_number e.0 n is) (none_above e.0 p (listed es) h.0) in
+            let none : first_awaiting n p (listed es) ≡ None = subst (λ m. first_awaiting m p (listed es) ≡ None) (same_number e.0 n is) (none_above e.0 p (listed es) h.0) in
             rw (is, none) (elim (e.1.port == p) as (λ b. cond b (Some (awaited_of e)) None ≡ cond b (Some (awaited_of (n, e.1))) None) [
               | true ↦ ap (λ m. Some (awaited_of (m, e.1))) (same_number e.0 n is)
               | false ↦ refl
             ])
-        | false ↦ λ is. rw is (first_bearing-listed es n p h.1)
+        | false ↦ λ is. rw is (first_awaiting-listed es n p h.1)
       ] refl)
 
   -- ---- what calls of the map give
-  pub found_none : (es : List (ℕ × Pending M)) (n p : ℕ) (now : List (Awaited M)) → IsAscending (listed es) → listed es ≡ now → None ≡ lookup (is_at (nat_cmp n)) es → None ≡ first_bearing n p now
-  found_none es n p now h view e = ap (λ o. found n o p) e ∙ (sym (first_bearing-listed es n p h) ∙ ap (first_bearing n p) view)
+  -- Nothing is found where the map has no entry.
+  pub found_none : (es : List (ℕ × Pending M)) (n p : ℕ) (now : List (Awaited M)) → IsAscending (listed es) → listed es ≡ now → None ≡ lookup (is_at (nat_cmp n)) es → None ≡ first_awaiting n p now
+  found_none es n p now h view e = ap (λ o. found n o p) e ∙ (sym (first_awaiting-listed es n p h) ∙ ap (first_awaiting n p) view)
 
+  -- Nothing is found where the entry has another port.
   pub found_elsewhere : (es : List (ℕ × Pending M)) (n p : ℕ) (now : List (Awaited M)) (v : Pending M) → IsAscending (listed es) → listed es ≡ now → Some v ≡ lookup (is_at (nat_cmp n)) es
-      → v.port ≢ p → None ≡ first_bearing n p now
+      → v.port ≢ p → None ≡ first_awaiting n p now
   found_elsewhere es n p now v h view e other =
       let apart : (v.port == p) ≡ false = grind (arith, nat_tests) in
-      ap (λ b. cond b (Some (awaited_of (n, v))) None) (sym apart) ∙ (ap (λ o. found n o p) e ∙ (sym (first_bearing-listed es n p h) ∙ ap (first_bearing n p) view))
+      ap (λ b. cond b (Some (awaited_of (n, v))) None) (sym apart) ∙ (ap (λ o. found n o p) e ∙ (sym (first_awaiting-listed es n p h) ∙ ap (first_awaiting n p) view))
 
+  -- The entry is found where it has the port.
   pub found_here : (es : List (ℕ × Pending M)) (n p : ℕ) (now : List (Awaited M)) (v : Pending M) → IsAscending (listed es) → listed es ≡ now → Some v ≡ lookup (is_at (nat_cmp n)) es
-      → v.port ≡ p → Some (record { number = n; port = p; stream = v.tag; acks = v.acks }) ≡ first_bearing n p now
+      → v.port ≡ p → Some (record { number = n; port = p; stream = v.tag; acks = v.acks }) ≡ first_awaiting n p now
   found_here es n p now v h view e here =
       let same : (v.port == p) ≡ true = grind (arith, nat_tests) in
       ap (λ q. Some (record { number = n; port = q; stream = v.tag; acks = v.acks })) (sym here)
-      ∙ (ap (λ b. cond b (Some (awaited_of (n, v))) None) (sym same) ∙ (ap (λ o. found n o p) e ∙ (sym (first_bearing-listed es n p h) ∙ ap (first_bearing n p) view)))
+      ∙ (ap (λ b. cond b (Some (awaited_of (n, v))) None) (sym same) ∙ (ap (λ o. found n o p) e ∙ (sym (first_awaiting-listed es n p h) ∙ ap (first_awaiting n p) view)))
 
+  -- An entry under a number above all others goes to the end.
   pub noted_last : (es fs : List (ℕ × Pending M)) (k : ℕ) (v : Pending M) (now : List (Awaited M)) → listed es ≡ now → AllByRecursion (λ (w : Awaited M). w.number < k) now
       → fs ≡ insert_entry nat_cmp es k v → listed fs ≡ now ++ awaited_of (k, v) ∷ []
   noted_last es fs k v now view below e =
       ap listed e ∙ (listed-insert_entry es k v (subst (λ ws. AllByRecursion (λ (w : Awaited M). w.number < k) ws) (sym view) below) ∙ ap (λ ws. ws ++ awaited_of (k, v) ∷ []) view)
 
+  -- A removal takes out what a number awaits.
   pub removed : (es fs : List (ℕ × Pending M)) (k : ℕ) (now : List (Awaited M)) → listed es ≡ now → IsAscending (listed es)
       → fs ≡ remove_entry (is_at (nat_cmp k)) es → listed fs ≡ without k now
   removed es fs k now view h e = ap listed e ∙ (listed-remove_entry es k h ∙ ap (without k) view)
 
+  -- Without its greatest entry the map has the same first entries.
   pub popped : (es fs : List (ℕ × Pending M)) (r : Option (ℕ × Pending M)) (n : ℕ) → (IsSome r ↔ (0 < length es)) → IfSome r (λ p. es ≡ fs ++ p ∷ []) → n < length es
       → take n (listed fs) ≡ take n (listed es)
   popped es fs None n some last h = let never : IsSome {T = ℕ × Pending M} None = some.1 (omega arith) in cc
@@ -123,5 +132,6 @@ module _ {M : Type 0} where
       let fits : n ≤ length (listed fs) = rw (length-map fs awaited_of) (omega arith) in
       sym (rw (last, map-append awaited_of fs (p ∷ []), take-append-le n (listed fs) (awaited_of p ∷ []) fits))
 
+  -- A map that is no longer than a count is its own first entries.
   pub none_left : (es : List (ℕ × Pending M)) (n : ℕ) → length es ≤ n → listed es ≡ take n (listed es)
   none_left es n h = sym (take_all n (listed es) (rw (length-map es awaited_of) h))

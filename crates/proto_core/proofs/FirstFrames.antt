@@ -6,22 +6,22 @@ use Rattle.nl_core.specs.declared.error.DecodeError.{DecodeError}
 use Rattle.nl_core.specs.declared.header.NetlinkHeader.{NetlinkHeader}
 use Rattle.nl_core.specs.declared.message.NetlinkMessage.{NetlinkMessage}
 use Rattle.nl_core.specs.Frames.{IsFrame, frame_at}
-use Rattle.session_model.specs.Cut.{IsCut, BeginsNone, behind}
+use Rattle.session_model.specs.Cut.{IsCut, BeginsNone, after_front}
 use Rattle.session_model.proofs.Cuts.{begins_with, begins_not}
 use Rattle.session_model.proofs.Fronts.{header_at-append, frame_at-append}
 use Rattle.proto_core.specs.Codec.{told, rest_told, front, without_front, readable, left, or_later, left_of, first_told, IsUnreadable, FindsReadable, LacksFirst}
 use Rattle.proto_core.specs.declared.codec.Decoded.TheVariants as decoded
 use Rattle.proto_core.proofs.Walks.{readable-frame, left-frame, none_readable}
 
--- the bytes of frames and a rest
+-- The bytes of frames and a rest.
 abbrev whole_of : List (List ℕ) → List ℕ → List ℕ
 whole_of frames rest = flat_map (λ frame. frame) frames ++ rest
 
 first_apart : (frame : List ℕ) (frames : List (List ℕ)) (rest : List ℕ) → whole_of (frame ∷ frames) rest ≡ frame ++ whole_of frames rest
 first_apart frame frames rest = append_assoc frame (flat_map (λ frame. frame) frames) rest
 
-behind-append : (frame more : List ℕ) → IsFrame frame → behind (frame ++ more) ≡ more
-behind-append frame more is = ap (λ (k : ℕ). drop k (frame ++ more)) ((begins_with frame more is).0) ∙ drop-append_seam frame more
+after_front-append : (frame more : List ℕ) → IsFrame frame → after_front (frame ++ more) ≡ more
+after_front-append frame more is = ap (λ (k : ℕ). drop k (frame ++ more)) ((begins_with frame more is).0) ∙ drop-append_seam frame more
 
 module _ {M : Type 0} (reads : ℕ → List ℕ → Result M DecodeError) where
   front-append : (frame more : List ℕ) → IsFrame frame → front reads (frame ++ more) ≡ told frame (frame_at reads frame)
@@ -34,6 +34,7 @@ module _ {M : Type 0} (reads : ℕ → List ℕ → Result M DecodeError) where
       by_header (Ok m) = refl
       by_header (Err e) = ap (λ (h : NetlinkHeader). decoded.Unreadable h.message_type h.sequence_number) (header_at-append frame more is.header)
 
+  -- What stands at the front of bytes is the first frame of their cut, or its rest.
   pub front-cut : (bytes : List ℕ) (frames : List (List ℕ)) (rest : List ℕ) → IsCut bytes frames rest → front reads bytes ≡ first_told reads frames rest
   front-cut bytes [] rest cut = ap (front reads) cut.whole ∙ ap (λ b. cond b (told rest (frame_at reads rest)) (rest_told rest)) (begins_not rest cut.rest_begins)
   front-cut bytes (frame ∷ frames) rest cut =
@@ -67,7 +68,7 @@ module _ {M : Type 0} (reads : ℕ → List ℕ → Result M DecodeError) where
   finds (frame ∷ frames) rest each none =
       let more = whole_of frames rest in
       let b = (begins_with frame more each.0).1 in
-      let gone = behind-append frame more each.0 in
+      let gone = after_front-append frame more each.0 in
       let alone = frame_at-append reads frame more each.0 in
       let r : readable reads (whole_of (frame ∷ frames) rest) ≡ or_later (frame_at reads frame) (readable reads more) =
       ap (readable reads) (first_apart frame frames rest) ∙ readable-frame reads (frame ++ more) b
@@ -80,15 +81,17 @@ module _ {M : Type 0} (reads : ℕ → List ℕ → Result M DecodeError) where
       (subst (λ (x : List ℕ). FindsReadable reads (frame ∷ frames) rest (or_later (frame_at reads frame) (readable reads more)) x) (sym l)
       (by_first frame frames rest (frame_at reads frame) (readable reads more) more (left reads more) refl cut (finds frames rest each.1 none)))
 
+  -- The first message of bytes is that of the first frame of their cut that can be read.
   pub readable-cut : (bytes : List ℕ) (frames : List (List ℕ)) (rest : List ℕ) → IsCut bytes frames rest → FindsReadable reads frames rest (readable reads bytes) (left reads bytes)
   readable-cut bytes frames rest cut =
       subst (λ (b : List ℕ). FindsReadable reads frames rest (readable reads b) (left reads b)) (sym cut.whole) (finds frames rest cut.each cut.rest_begins)
 
+-- Without what stands at their front, bytes have the later frames of their cut.
 pub without_front-cut : (bytes : List ℕ) (frames : List (List ℕ)) (rest : List ℕ) → IsCut bytes frames rest → LacksFirst frames rest (without_front bytes)
-without_front-cut bytes [] rest cut = ap without_front cut.whole ∙ ap (λ b. cond b (behind rest) []) (begins_not rest cut.rest_begins)
+without_front-cut bytes [] rest cut = ap without_front cut.whole ∙ ap (λ b. cond b (after_front rest) []) (begins_not rest cut.rest_begins)
 without_front-cut bytes (frame ∷ frames) rest cut =
     let more = whole_of frames rest in
     let e : without_front bytes ≡ more =
-    ap without_front (cut.whole ∙ first_apart frame frames rest) ∙ ap (λ b. cond b (behind (frame ++ more)) []) ((begins_with frame more cut.each.0).1)
-    ∙ behind-append frame more cut.each.0 in
+    ap without_front (cut.whole ∙ first_apart frame frames rest) ∙ ap (λ b. cond b (after_front (frame ++ more)) []) ((begins_with frame more cut.each.0).1)
+    ∙ after_front-append frame more cut.each.0 in
     subst (λ (b : List ℕ). IsCut b frames rest) (sym e) (record { whole = refl; each = cut.each.1; rest_begins = cut.rest_begins })

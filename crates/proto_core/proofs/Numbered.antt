@@ -8,7 +8,7 @@ use Rattle.session_model.specs.Awaited.{numbered}
 use Rattle.proto_core.specs.declared.request.ExpectResponse.{ExpectResponse}
 use Rattle.proto_core.specs.declared.request.Request.{Request}
 use Rattle.proto_core.specs.declared.messages.Outgoing.{Outgoing}
-use Rattle.proto_core.specs.Noted.{noted, noted_one, is_expected}
+use Rattle.proto_core.specs.Noted.{noted, noted_of, noted_one, is_expected}
 use Rattle.proto_core.specs.Numbers.{is_awaited, numbers_after}
 use Rattle.proto_core.specs.Session.{Session, Continues, requested}
 
@@ -30,25 +30,28 @@ module _ {T M : Type 0} where
         | false ↦ rest
       ]
 
+  -- After a request no number is used again.
   pub continues_requested : (kind : T → ℕ) (text : T → List ℕ) (s : Session T M) (r : Request T M) → Continues s (requested kind text s r)
   continues_requested kind text s r = record {
     rises = omega arith;
-    stays_ended = λ n h e. rw (list_any-append (λ (w : Awaited M). w.number == n) s.awaited (noted r.expect_response 0 s.last r.metadata r.destination.port r.messages), e)
+    stays_ended = λ n h e. rw (list_any-append (λ (w : Awaited M). w.number == n) s.awaited (noted_of r s.last), e)
         (noted_above r.expect_response 0 s.last r.metadata r.destination.port r.messages n h);
   }
 
+  -- Where nothing changes no number is used again.
   pub continues_same : (s now : Session T M) → now ≡ s → Continues s now
   continues_same s now e = record {
     rises = omega (arith, ap (λ (o : Session T M). o.last) e);
     stays_ended = λ n h f. rw e f;
   }
 
-  -- the session as it was opened, with what a request puts in
+  -- The session as it was opened, with what a request puts in, is the session after the request.
   pub request_step : (kind : T → ℕ) (text : T → List ℕ) (opened s : Session T M) (r : Request T M) (ws : List (Awaited M)) (os : List (Outgoing T)) → opened ≡ s
-      → ws ≡ opened.awaited ++ noted r.expect_response 0 opened.last r.metadata r.destination.port r.messages
+      → ws ≡ opened.awaited ++ noted_of r opened.last
       → os ≡ opened.outgoing ++ record { messages = numbered kind text opened.last r.messages; destination = r.destination } ∷ []
       → record opened { last = opened.last + length r.messages; awaited = ws; outgoing = os } ≡ requested kind text s r
   request_step kind text opened s r ws os view e f = rw (e, f, view) refl
 
+  -- No number is used again, over the session after a request.
   pub continues_step : (kind : T → ℕ) (text : T → List ℕ) (s now : Session T M) (r : Request T M) → now ≡ requested kind text s r → Continues s now
   continues_step kind text s now r e = rw e (continues_requested kind text s r)

@@ -1,4 +1,5 @@
 pub mod Codec
+pub mod ErrorText
 pub mod Noted
 pub mod Numbers
 pub mod Pending

@@ -1,6 +1,7 @@
 -- The numbers of messages, and of what is awaited.
-use Rattle.std.specs.Prelude.{◌+◌, ◌<◌, ◌==◌, ℕ, zero, suc, Bool, not, List, [], ◌∷◌}
+use Rattle.std.specs.Prelude.{◌+◌, ◌<◌, ◌==◌, ℕ, zero, suc, Bool, not, List, [], ◌∷◌, map}
 use Rattle.std.specs.List.{filter, list_any, AllByRecursion}
+use Rattle.nl_core.specs.declared.message.NetlinkMessage.{NetlinkMessage}
 use Rattle.session_model.specs.declared.awaited.Awaited.{Awaited}
 
 -- So many numbers, each one more than the one before it, from the one that follows `last`.
@@ -8,8 +9,12 @@ abbrev pub numbers_after : ℕ → ℕ → List ℕ
 numbers_after last zero = []
 numbers_after last (suc n) = (last + 1) ∷ numbers_after (last + 1) n
 
+-- The numbers of messages.
+abbrev pub numbers_of : {T : Type 0} → List (NetlinkMessage T) → List ℕ
+numbers_of ms = map (λ m. m.header.sequence_number) ms
+
 module _ {M : Type 0} where
-  -- Each number is below all that stand behind it, so no number stands twice.
+  -- Each number is below all that stand after it, so no number stands twice.
   abbrev pub IsAscending : List (Awaited M) → Type 0
   IsAscending [] = Unit {0}
   IsAscending (w ∷ ws) = AllByRecursion (λ (v : Awaited M). w.number < v.number) ws × IsAscending ws

@@ -7,7 +7,8 @@ use Rattle.proto_core.specs.declared.request.RequestRefusal.{RequestRefusal}
 use Rattle.proto_core.specs.declared.request.RequestRefusal.TheVariants.{SequenceExhausted, Unfit, NoMemory}
 
 module _ {T : Type 0} (text : T → List ℕ) (fits : T → Bool) where
-  -- Messages, after so many numbers, are refused: their numbers would pass the greatest, or else a message doesn't fit, and it is the first of them; or memory ran out.
+  -- Messages, after so many numbers, are refused: their numbers would pass the greatest, or else a
+  -- message doesn't fit, and it is the first of them; or memory ran out.
   abbrev pub IsCause : ℕ → List (NetlinkMessage T) → RequestRefusal → Type 0
   IsCause last ms (SequenceExhausted used asked) = (used ≡ last) × (asked ≡ length ms) × (2 ^ 32 ≤ last + length ms)
   IsCause last ms (Unfit index) =

@@ -1,9 +1,9 @@
-// Between messages and the bytes of datagrams.
-ghost use Rattle.std.specs.Prelude.{◌≡◌, ◌≤◌, ◌++◌, [], IfErr, IfOk, OnErr, OnOk, drop, false, length, true};
+//! Between messages and the bytes of datagrams.
+ghost use Rattle.std.specs.Prelude.{◌≡◌, ◌+◌, ◌<◌, ◌≤◌, ◌++◌, IfErr, IfOk, OnErr, OnOk, Err, drop, false, length, true};
 ghost use Rattle.nl_core.specs.Frames.{frame_at, header_at, message_fits, message_text};
 ghost use Rattle.proto_core.specs.Codec.{front, left, readable, without_front};
 ghost use Rattle.proto_core.specs.Walk.{front_header, if_read};
-ghost use Rattle.proto_core.specs.declared.codec.CodecError.TheVariants.{NoMemory as WantOfMemory};
+ghost use Rattle.proto_core.specs.declared.codec.CodecError.TheVariants.{NoMemory as OutOfMemory, Unfit as DoesNotFit};
 
 use bytes::BytesMut;
 use nl_core::{
@@ -42,7 +42,7 @@ pub enum CodecError {
 }
 
 impl From<AllocError> for CodecError {
-    ghost from_gives = { λ _ e. e ≡ WantOfMemory };
+    ghost from_gives = { λ _ e. e ≡ OutOfMemory };
 
     fn from(_: AllocError) -> Self {
         CodecError::NoMemory
@@ -50,7 +50,7 @@ impl From<AllocError> for CodecError {
 }
 
 impl From<NoMemory> for CodecError {
-    ghost from_gives = { λ _ e. e ≡ WantOfMemory };
+    ghost from_gives = { λ _ e. e ≡ OutOfMemory };
 
     fn from(_: NoMemory) -> Self {
         CodecError::NoMemory
@@ -60,7 +60,7 @@ impl From<NoMemory> for CodecError {
 /// Messages out of the bytes of datagrams, and into them.
 ///
 /// A buffer is cut into frames from the front, each as long as the length field of its header says.
-/// The bytes behind the last frame are a rest: too few for a header, or under a length field below
+/// The bytes after the last frame are a rest: too few for a header, or under a length field below
 /// 16 or above their count.
 pub trait NetlinkMessageCodec {
     /// Takes the frame at the front out of a buffer, or all of it where none begins there.
@@ -89,8 +89,13 @@ pub trait NetlinkMessageCodec {
         buf: &mut BytesMut,
     ) -> Result<(), CodecError>
         ensures ok { OnOk result (buf.new.items ≡ buf.old.items ++ message_text T.text msg) }
-        ensures err { IfErr result (λ e. (buf.new.items ≡ buf.old.items) × (e ≡ CodecError.Unfit → message_fits T.text T.fitting msg ≡ false)) }
-        ensures fits { OnOk result (message_fits T.text T.fitting msg ≡ true) };
+        ensures same { OnErr result (buf.new.items ≡ buf.old.items) }
+        ensures fits { OnOk result (message_fits T.text T.fitting msg ≡ true) }
+        ensures unfit { IfErr result (λ e. e ≡ DoesNotFit → message_fits T.text T.fitting msg ≡ false) }
+
+        // Memory runs out only where the buffer has too little room.
+        ensures room { OnOk result (buf.old.spare ≤ buf.new.spare + length (message_text T.text msg)) }
+        ensures memory { IfErr result (λ e. e ≡ OutOfMemory → buf.old.spare < length (message_text T.text msg)) };
 }
 
 /// The codec of netlink: a header of 16 bytes in front of each payload, nothing between frames.
@@ -112,8 +117,8 @@ fn header_in_front(bytes: &[u8]) -> Option<NetlinkHeader>
     Some(header)
 }
 
-/// The message of the frame at the front; bytes past it are not looked at. None where no frame begins there, or it can't be
-/// read.
+/// The message of the frame at the front; bytes past it are not looked at. None where no frame
+/// begins there, or it can't be read.
 pub fn read_frame<T: NetlinkDeserializable>(
     alloc: Global,
     bytes: &[u8],
@@ -127,7 +132,7 @@ pub fn read_frame<T: NetlinkDeserializable>(
     }
 }
 
-// The first message of bytes that can be read, and where what is behind it begins.
+// The first message of bytes that can be read, and where what comes after it begins.
 #[tactic(auto, using(crate::proofs::Walks::readable_ends))]
 fn first_readable<T: NetlinkDeserializable>(
     alloc: Global,
@@ -154,11 +159,12 @@ fn first_readable<T: NetlinkDeserializable>(
 }
 
 // Appends a message's bytes, of which there are `len`, to a buffer that has room for them.
-fn write_behind<T: NetlinkSerializable>(msg: &NetlinkMessage<T>, len: usize, buf: &mut BytesMut)
+fn append_text<T: NetlinkSerializable>(msg: &NetlinkMessage<T>, len: usize, buf: &mut BytesMut)
     requires fits { message_fits T.text T.fitting msg.now ≡ true }
     requires len { len ≡ length (message_text T.text msg.now) }
     requires room { len ≤ buf.old.spare }
-    ensures { buf.new.items ≡ buf.old.items ++ message_text T.text msg.now }
+    ensures written { buf.new.items ≡ buf.old.items ++ message_text T.text msg.now }
+    ensures spare { buf.new.spare + len ≡ buf.old.spare }
 {
     let at = buf.len();
     buf.advance_mut(len);
@@ -207,7 +213,7 @@ impl NetlinkMessageCodec for NetlinkCodec {
         }
         let len = msg.buffer_len();
         buf.reserve(len)?;
-        write_behind(&msg, len, buf);
+        append_text(&msg, len, buf);
         Ok(())
     }
 }

@@ -1,4 +1,4 @@
-// What a session hands out.
+//! What a session hands out.
 use nl_core::{Items, NetlinkMessage};
 use session_model::SocketAddr;
 

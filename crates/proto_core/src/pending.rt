@@ -1,6 +1,6 @@
-// The numbers that await a reply, in a map by number.
+//! The numbers that await a reply, in a map by number.
 ghost use Rattle.std.specs.Prelude.{◌≡◌, [], ◌∷◌, ◌++◌, OnOk, OnErr, if◌then◌else◌, length, take};
-ghost use Rattle.session_model.specs.Awaited.{first_bearing};
+ghost use Rattle.session_model.specs.Awaited.{first_awaiting};
 ghost use Rattle.proto_core.specs.Numbers.{AreBelow, IsAscending, without};
 
 use nl_core::NoMemory;
@@ -54,7 +54,7 @@ impl<M: Copy> PendingTable<M> {
 
     // What awaits a number from a port.
     pub fn find(&self, number: u32, port: u32) -> Option<Awaited<M>>
-        ensures found { result ≡ first_bearing number port self.now }
+        ensures found { result ≡ first_awaiting number port self.now }
         ensures ascending { IsAscending self.now }
     {
         let pending = *self.entries.get(&number)?;

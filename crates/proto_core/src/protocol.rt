@@ -1,24 +1,24 @@
-// The session: numbers, awaited replies and three queues.
-ghost use Rattle.std.specs.Prelude.{◌≡◌, ◌+◌, ◌<◌, ◌≤◌, ◌^◌, [], ◌∷◌, ◌++◌, IfErr, IfNone, IfSome, OnErr, OnOk, false, is_some, length, map, true};
+//! The session: numbers, awaited replies and three queues.
+ghost use Rattle.std.specs.Prelude.{◌≡◌, ◌+◌, ◌<◌, ◌≤◌, ◌^◌, [], ◌++◌, IfErr, IfNone, IfSome, OnErr, OnOk, is_some, length, take, true};
 ghost use Rattle.std.specs.List.{list_all};
 ghost use Rattle.std.specs.VecDeque.{deque_len, deque_capacity};
-ghost use Rattle.nl_core.specs.declared.message.NetlinkMessage.{NetlinkMessage};
 ghost use Rattle.nl_core.specs.Frames.{message_fits};
-ghost use Rattle.session_model.specs.Awaited.{first_bearing, is_last, numbered};
-ghost use Rattle.proto_core.specs.Noted.{noted};
+ghost use Rattle.session_model.specs.Awaited.{first_awaiting, is_last, numbered};
+ghost use Rattle.proto_core.specs.Noted.{noted_of};
 ghost use Rattle.proto_core.specs.Refused.{IsCause};
-ghost use Rattle.proto_core.specs.Numbers.{AreBelow, IsAscending, is_awaited, numbers_after};
+ghost use Rattle.proto_core.specs.Numbers.{AreBelow, IsAscending, numbers_after, numbers_of};
 
 use crate::messages::{Handled, Incoming, Outgoing, Place, Response};
 use crate::pending::PendingTable;
-use crate::request::{Request, RequestRefusal, check, note_all, under_numbers};
+use crate::request::{Request, RequestRefusal, check_batch, note_all, under_numbers};
 use nl_core::{NLM_F_MULTIPART, NetlinkMessage, NetlinkPayload, NetlinkSerializable, NoMemory};
 use session_model::SocketAddr;
 use std::alloc::Global;
 use std::collections::VecDeque;
 use std::marker::Model;
 
-/// A session over netlink: it numbers what is sent, and finds for what arrives the request that awaits it.
+/// A session over netlink: it numbers what is sent, and finds for what arrives the request that
+/// awaits it.
 ///
 /// Contracts see a `Session`, and `spare`: how many messages `handle_message` can take in before
 /// `reserve` must make room again. It counts the room of the queue that has less.
@@ -41,8 +41,16 @@ impl<T, M> Model for Protocol<T, M> {
     ghost Value = { Roomy T M };
 
     ghost view = { λ p. record {
-      session = record { last = p.last; awaited = p.awaited; arrived = p.arrived; responses = p.responses.items; incoming = p.incoming.items; outgoing = p.outgoing.items };
-      spare = min (deque_capacity p.responses - deque_len p.responses) (deque_capacity p.incoming - deque_len p.incoming);
+      session = record {
+        last = p.last;
+        awaited = p.awaited;
+        arrived = p.arrived;
+        responses = p.responses.items;
+        incoming = p.incoming.items;
+        outgoing = p.outgoing.items;
+      };
+      spare = min (deque_capacity p.responses - deque_len p.responses)
+          (deque_capacity p.incoming - deque_len p.incoming);
     } };
 
     ghost invariant = { λ p. AreBelow (p.last + 1) p.awaited };
@@ -59,8 +67,8 @@ fn is_last_of<T>(message: &NetlinkMessage<T>, acks: bool) -> bool
 }
 
 impl<T, M: Copy> Protocol<T, M> {
-    ghost use Rattle.proto_core.specs.Session.{Continues, arrived_at, fresh, handled, place_of};
-    ghost use Rattle.proto_core.specs.declared.messages.Place.TheVariants.{Reply};
+    ghost use Rattle.proto_core.specs.Session.{BeginsWith, Continues, EndsNumber, arrival_of, arrived_at, fresh, handled};
+    ghost use Rattle.proto_core.specs.Session.{taken_back, with_incoming, with_outgoing, with_response};
 
     /// A session whose first number is 1.
     pub fn new(alloc: Global) -> Self
@@ -94,10 +102,10 @@ impl<T, M: Copy> Protocol<T, M> {
         Ok(())
     }
 
-    /// What `handle_message` answers for a message from an address.
-    pub fn foresee(&self, message: &NetlinkMessage<T>, source: SocketAddr) -> Handled<M>
+    /// What `handle_message` would answer for a message from an address.
+    pub fn would_handle(&self, message: &NetlinkMessage<T>, source: SocketAddr) -> Handled<M>
         requires count { self.now.session.arrived + 1 < 2 ^ 64 }
-        ensures handled { result ≡ handled (record { message = message.now; source = source }) self.now.session }
+        ensures handled { result ≡ handled (arrival_of message.now source) self.now.session }
         ensures ascending { IsAscending self.now.session.awaited }
     {
         let number = message.header.sequence_number;
@@ -119,14 +127,14 @@ impl<T, M: Copy> Protocol<T, M> {
     pub fn handle_message(&mut self, message: NetlinkMessage<T>, source: SocketAddr) -> Handled<M>
         requires room { 1 ≤ self.old.spare }
         requires count { self.old.session.arrived + 1 < 2 ^ 64 }
-        ensures handled { result ≡ handled (record { message = message; source = source }) self.old.session }
-        ensures after { self.new.session ≡ arrived_at (record { message = message; source = source }) self.old.session }
+        ensures handled { result ≡ handled (arrival_of message source) self.old.session }
+        ensures after { self.new.session ≡ arrived_at (arrival_of message source) self.old.session }
         ensures counted { self.new.session.arrived ≡ self.old.session.arrived + 1 }
         ensures continues { Continues self.old.session self.new.session }
-        ensures ended { (metadata : M) → result.to ≡ Reply metadata true → is_awaited message.header.sequence_number self.new.session.awaited ≡ false }
+        ensures ended { EndsNumber result.to message.header.sequence_number self.new.session }
         ensures room_left { self.old.spare ≤ self.new.spare + 1 }
     {
-        let handled = self.foresee(&message, source);
+        let handled = self.would_handle(&message, source);
         let arrival = handled.arrival;
         self.arrived = arrival;
         match handled.to {
@@ -160,13 +168,13 @@ impl<T, M: Copy> Protocol<T, M> {
 
     /// Whether a number is awaited from a port.
     pub fn is_pending(&self, number: u32, port: u32) -> bool
-        ensures pending { result ≡ is_some (first_bearing number port self.now.session.awaited) }
+        ensures pending { result ≡ is_some (first_awaiting number port self.now.session.awaited) }
         ensures ascending { IsAscending self.now.session.awaited }
     {
         self.awaited.find(number, port).is_some()
     }
 
-    /// How many messages arrived.
+    /// How many messages were taken in, replies and others.
     pub fn arrivals(&self) -> u64
         ensures { result ≡ self.now.session.arrived }
     {
@@ -184,7 +192,7 @@ impl<T, M: Copy> Protocol<T, M> {
     /// Takes out the oldest reply.
     pub fn next_response(&mut self) -> Option<Response<T, M>>
         ensures none { IfNone result ((self.old.session.responses ≡ []) × (self.new.session ≡ self.old.session)) }
-        ensures some { IfSome result (λ r. self.old.session ≡ record self.new.session { responses = r ∷ self.new.session.responses }) }
+        ensures some { IfSome result (λ r. self.old.session ≡ with_response r self.new.session) }
         ensures spare { self.old.spare ≤ self.new.spare }
     {
         self.responses.pop_front()
@@ -193,7 +201,7 @@ impl<T, M: Copy> Protocol<T, M> {
     /// Takes out the oldest message that nothing awaited.
     pub fn next_incoming(&mut self) -> Option<Incoming<T>>
         ensures none { IfNone result ((self.old.session.incoming ≡ []) × (self.new.session ≡ self.old.session)) }
-        ensures some { IfSome result (λ r. self.old.session ≡ record self.new.session { incoming = r ∷ self.new.session.incoming }) }
+        ensures some { IfSome result (λ r. self.old.session ≡ with_incoming r self.new.session) }
         ensures spare { self.old.spare ≤ self.new.spare }
     {
         self.incoming.pop_front()
@@ -202,10 +210,29 @@ impl<T, M: Copy> Protocol<T, M> {
     /// Takes out the oldest datagram to be sent.
     pub fn next_outgoing(&mut self) -> Option<Outgoing<T>>
         ensures none { IfNone result ((self.old.session.outgoing ≡ []) × (self.new.session ≡ self.old.session)) }
-        ensures some { IfSome result (λ r. self.old.session ≡ record self.new.session { outgoing = r ∷ self.new.session.outgoing }) }
+        ensures some { IfSome result (λ r. self.old.session ≡ with_outgoing r self.new.session) }
         ensures spare { self.new.spare ≡ self.old.spare }
     {
         self.outgoing.pop_front()
+    }
+
+    /// The datagram that `next_outgoing` takes out next.
+    pub fn front_outgoing(&self) -> Option<&Outgoing<T>>
+        ensures none { IfNone result (self.now.session.outgoing ≡ []) }
+        ensures some { IfSome result (λ o. BeginsWith o.now self.now.session.outgoing) }
+    {
+        self.outgoing.front()
+    }
+
+    /// Takes back the numbers that follow `last`, under which nothing was sent: of what is awaited
+    /// the first `pending` stay.
+    pub fn take_back(&mut self, last: u32, pending: usize)
+        requires { AreBelow (last + 1) (take pending self.old.session.awaited) }
+        ensures session { self.new.session ≡ taken_back last pending self.old.session }
+        ensures spare { self.new.spare ≡ self.old.spare }
+    {
+        self.awaited.truncate(pending);
+        self.last = last;
     }
 
     /// How many replies wait to be taken out.
@@ -240,14 +267,14 @@ fn prepare<T: NetlinkSerializable, M: Copy>(
     requires { AreBelow (last + 1) awaited.old }
     ensures in_range { OnOk result (last + length request.now.messages < 2 ^ 32) }
     ensures fit { OnOk result (list_all (message_fits T.text T.fitting) request.now.messages ≡ true) }
-    ensures noted { OnOk result (awaited.new ≡ awaited.old ++ noted request.now.expect_response 0 last request.now.metadata request.now.destination.port request.now.messages) }
+    ensures noted { OnOk result (awaited.new ≡ awaited.old ++ noted_of request.now last) }
     ensures below { OnOk result (AreBelow (last + length request.now.messages + 1) awaited.new) }
     ensures room { OnOk result (deque_len outgoing.new < deque_capacity outgoing.new) }
     ensures queue { outgoing.new.items ≡ outgoing.old.items }
     ensures refused { IfErr result (IsCause T.text T.fitting last request.now.messages) }
     ensures same { OnErr result (awaited.new ≡ awaited.old) }
 {
-    check(request.messages.as_slice(), last)?;
+    check_batch(request.messages.as_slice(), last)?;
     outgoing.reserve(1)?;
     note_all(awaited, request, last)?;
     Ok(())
@@ -264,7 +291,7 @@ impl<T: NetlinkSerializable, M: Copy> Protocol<T, M> {
         ensures fit { OnOk result (list_all (message_fits T.text T.fitting) request.messages ≡ true) }
 
         // Each number is one more than the one before it.
-        ensures numbers { map (λ (m : NetlinkMessage T). m.header.sequence_number) (numbered T.kind T.text self.old.session.last request.messages)
+        ensures numbers { numbers_of (numbered T.kind T.text self.old.session.last request.messages)
             ≡ numbers_after self.old.session.last (length request.messages) }
         ensures continues { Continues self.old.session self.new.session }
 

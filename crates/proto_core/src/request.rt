@@ -1,13 +1,13 @@
-// Requests: which are taken, what they await, and how their messages are numbered.
+//! Requests: which are taken, what they await, and how their messages are numbered.
 ghost use Rattle.std.specs.Prelude.{◌≡◌, ◌+◌, ◌<◌, ◌^◌, [], ◌∷◌, ◌++◌, if◌then◌else◌, OnOk, OnErr, IfErr, IfSome, IfNone, true, false, length, take, slice_index_or};
 ghost use Rattle.std.specs.List.{list_all};
 ghost use Rattle.nl_core.specs.Frames.{message_fits};
 ghost use Rattle.session_model.specs.Awaited.{numbered};
 ghost use Rattle.session_model.specs.Flags.{wants_reply};
-ghost use Rattle.proto_core.specs.Noted.{noted, is_expected};
+ghost use Rattle.proto_core.specs.Noted.{noted_of, is_expected};
 ghost use Rattle.proto_core.specs.Numbers.{AreBelow};
 ghost use Rattle.proto_core.specs.Refused.{IsCause};
-ghost use Rattle.proto_core.specs.declared.request.RequestRefusal.TheVariants.{NoMemory as WantOfMemory};
+ghost use Rattle.proto_core.specs.declared.request.RequestRefusal.TheVariants.{NoMemory as OutOfMemory};
 
 use crate::pending::PendingTable;
 use nl_core::{
@@ -25,6 +25,13 @@ pub enum ExpectResponse {
     FromFlags,
     /// Those marked with `true` in their place. A message past the marks awaits none.
     Explicit(Items<bool>),
+}
+
+/// Whether a message of a request awaits a reply, where its flags don't say it.
+#[derive(Clone, Copy, Debug, PartialEq, Eq)]
+pub enum ReplyExpectation {
+    Expected,
+    NotExpected,
 }
 
 /// Messages that leave together, under a tag that their replies bring back.
@@ -50,7 +57,7 @@ pub enum RequestRefusal {
 }
 
 impl From<NoMemory> for RequestRefusal {
-    ghost from_gives = { λ _ e. e ≡ WantOfMemory };
+    ghost from_gives = { λ _ e. e ≡ OutOfMemory };
 
     fn from(_: NoMemory) -> Self {
         RequestRefusal::NoMemory
@@ -58,7 +65,7 @@ impl From<NoMemory> for RequestRefusal {
 }
 
 impl From<AllocError> for RequestRefusal {
-    ghost from_gives = { λ _ e. e ≡ WantOfMemory };
+    ghost from_gives = { λ _ e. e ≡ OutOfMemory };
 
     fn from(_: AllocError) -> Self {
         RequestRefusal::NoMemory
@@ -67,8 +74,9 @@ impl From<AllocError> for RequestRefusal {
 
 // The first message that doesn't fit.
 fn find_unfit<T: NetlinkSerializable>(messages: &[NetlinkMessage<T>]) -> Option<usize>
-    ensures some { IfSome result (λ i. (list_all (message_fits T.text T.fitting) (take i messages.now) ≡ true)
-        × (i < length messages.now) × ((d : _) → message_fits T.text T.fitting (slice_index_or messages.now i d) ≡ false)) }
+    ensures earlier { IfSome result (λ i. list_all (message_fits T.text T.fitting) (take i messages.now) ≡ true) }
+    ensures within { IfSome result (λ i. i < length messages.now) }
+    ensures unfit { IfSome result (λ i. (d : _) → message_fits T.text T.fitting (slice_index_or messages.now i d) ≡ false) }
     ensures none { IfNone result (list_all (message_fits T.text T.fitting) messages.now ≡ true) }
 {
     for (i, message) in messages.iter().enumerate() {
@@ -79,8 +87,9 @@ fn find_unfit<T: NetlinkSerializable>(messages: &[NetlinkMessage<T>]) -> Option<
     None
 }
 
-// Whether messages may take the numbers that follow one.
-pub(crate) fn check<T: NetlinkSerializable>(
+/// Whether messages may take the numbers that follow `used`: each fits, and no number passes
+/// 4,294,967,295.
+pub fn check_batch<T: NetlinkSerializable>(
     messages: &[NetlinkMessage<T>],
     used: u32,
 ) -> Result<(), RequestRefusal>
@@ -175,7 +184,7 @@ pub(crate) fn note_all<T, M: Copy>(
 ) -> Result<(), NoMemory>
     requires in_range { last + length request.now.messages < 2 ^ 32 }
     requires below { AreBelow (last + 1) awaited.old }
-    ensures ok { OnOk result (awaited.new ≡ awaited.old ++ noted request.now.expect_response 0 last request.now.metadata request.now.destination.port request.now.messages) }
+    ensures ok { OnOk result (awaited.new ≡ awaited.old ++ noted_of request.now last) }
     ensures below { OnOk result (AreBelow (last + length request.now.messages + 1) awaited.new) }
     ensures err { OnErr result (awaited.new ≡ awaited.old) }
 {

@@ -4,41 +4,26 @@ use Rattle.std.specs.Prelude.{◌&&◌, nat_le}
 use Rattle.std.proofs.lemmas.Bool.{leb-true}
 use Rattle.nl_core.proofs.FlatLists.{and_true}
 use Rattle.rt_dispatch.specs.declared.message.RouteNetlinkMessage.{RouteNetlinkMessage}
-use Rattle.rt_dispatch.specs.declared.message.RouteNetlinkMessage.TheVariants.{NewLink, DelLink, GetLink, SetLink, NewLinkProp, DelLinkProp, NewAddress, DelAddress, GetAddress, NewRoute, DelRoute, GetRoute, NewRule, DelRule, GetRule, NewQueueDiscipline, DelQueueDiscipline, GetQueueDiscipline, NewTrafficClass, DelTrafficClass, GetTrafficClass, NewTrafficFilter, DelTrafficFilter, GetTrafficFilter, NewTrafficAction, DelTrafficAction, GetTrafficAction, NewTrafficChain, DelTrafficChain, GetTrafficChain}
-use Rattle.rt_dispatch.specs.Dispatch.{text, fits}
+use Rattle.rt_other.specs.Link as Link
+use Rattle.rt_other.specs.Address as Address
+use Rattle.rt_other.specs.Route as Route
+use Rattle.rt_other.specs.Rule as Rule
+use Rattle.rt_other.specs.Tc as Tc
+use Rattle.rt_other.specs.TcAction as TcAction
+use Rattle.rt_dispatch.specs.Dispatch.{Body, OfLink, OfAddress, OfRoute, OfRule, OfTc, OfTcAction, body, body_text, body_fits, text, fits}
 
 short : (each : Bool) (n : ℕ) → (each && nat_le (16 + n) 4_294_967_295) ≡ true → n + 16 < 2 ^ 32
 short each n fit = omega (arith, leb-true _ _ (and_true each (nat_le (16 + n) 4_294_967_295) fit).1)
 
+body-short : (b : Body) → body_fits b ≡ true → length (body_text b) + 16 < 2 ^ 32
+body-short (OfLink m) fit = short _ (length (Link.text m)) fit
+body-short (OfAddress m) fit = short _ (length (Address.text m)) fit
+body-short (OfRoute m) fit = short _ (length (Route.text m)) fit
+body-short (OfRule m) fit = short _ (length (Rule.text m)) fit
+body-short (OfTc m) fit = short _ (length (Tc.text m)) fit
+body-short (OfTcAction m) fit = short _ (length (TcAction.text m)) fit
+
+-- A message that fits and its frame's header are shorter than 2^32 bytes.
 pub not-too-long : (m : RouteNetlinkMessage) → fits m ≡ true → length (text m) + 16 < 2 ^ 32
 unfolding text fits
-not-too-long (NewLink m) fit = short _ (length (text (NewLink m))) fit
-not-too-long (DelLink m) fit = short _ (length (text (DelLink m))) fit
-not-too-long (GetLink m) fit = short _ (length (text (GetLink m))) fit
-not-too-long (SetLink m) fit = short _ (length (text (SetLink m))) fit
-not-too-long (NewLinkProp m) fit = short _ (length (text (NewLinkProp m))) fit
-not-too-long (DelLinkProp m) fit = short _ (length (text (DelLinkProp m))) fit
-not-too-long (NewAddress m) fit = short _ (length (text (NewAddress m))) fit
-not-too-long (DelAddress m) fit = short _ (length (text (DelAddress m))) fit
-not-too-long (GetAddress m) fit = short _ (length (text (GetAddress m))) fit
-not-too-long (NewRoute m) fit = short _ (length (text (NewRoute m))) fit
-not-too-long (DelRoute m) fit = short _ (length (text (DelRoute m))) fit
-not-too-long (GetRoute m) fit = short _ (length (text (GetRoute m))) fit
-not-too-long (NewRule m) fit = short _ (length (text (NewRule m))) fit
-not-too-long (DelRule m) fit = short _ (length (text (DelRule m))) fit
-not-too-long (GetRule m) fit = short _ (length (text (GetRule m))) fit
-not-too-long (NewQueueDiscipline m) fit = short _ (length (text (NewQueueDiscipline m))) fit
-not-too-long (DelQueueDiscipline m) fit = short _ (length (text (DelQueueDiscipline m))) fit
-not-too-long (GetQueueDiscipline m) fit = short _ (length (text (GetQueueDiscipline m))) fit
-not-too-long (NewTrafficClass m) fit = short _ (length (text (NewTrafficClass m))) fit
-not-too-long (DelTrafficClass m) fit = short _ (length (text (DelTrafficClass m))) fit
-not-too-long (GetTrafficClass m) fit = short _ (length (text (GetTrafficClass m))) fit
-not-too-long (NewTrafficFilter m) fit = short _ (length (text (NewTrafficFilter m))) fit
-not-too-long (DelTrafficFilter m) fit = short _ (length (text (DelTrafficFilter m))) fit
-not-too-long (GetTrafficFilter m) fit = short _ (length (text (GetTrafficFilter m))) fit
-not-too-long (NewTrafficAction m) fit = short _ (length (text (NewTrafficAction m))) fit
-not-too-long (DelTrafficAction m) fit = short _ (length (text (DelTrafficAction m))) fit
-not-too-long (GetTrafficAction m) fit = short _ (length (text (GetTrafficAction m))) fit
-not-too-long (NewTrafficChain m) fit = short _ (length (text (NewTrafficChain m))) fit
-not-too-long (DelTrafficChain m) fit = short _ (length (text (DelTrafficChain m))) fit
-not-too-long (GetTrafficChain m) fit = short _ (length (text (GetTrafficChain m))) fit
+not-too-long m fit = body-short (body m) fit

@@ -1,10 +1,4 @@
 pub mod Headers
-pub mod FamilyAgain
-pub mod OpaqueAgain
-pub mod RouteAttributeAgain
-pub mod LinkAgain
-pub mod AddressAgain
-pub mod RuleAgain
-pub mod TcAgain
-pub mod TcActionAgain
-pub mod RouteAgain
+pub mod MessageReadBack
+pub mod Forms
+pub mod Counters

@@ -1,16 +1,16 @@
 -- Traffic control: what is read and what is written.
-use Rattle.std.specs.Prelude.{◌≡◌, ◌<◌, ◌^◌, ◌+◌, ◌&&◌, ℕ, pos, FitsSigned, Bool, true, nat_le, List, [], ◌∷◌, ◌++◌, length, drop, slice_index, Result, Ok}
+use Rattle.std.specs.Prelude.{◌≡◌, ◌<◌, ◌^◌, ℕ, pos, FitsSigned, Bool, true, List, [], ◌∷◌, ◌++◌, slice_index, Result, Ok}
 use Rattle.std.specs.Int.{w32}
 use Rattle.std.specs.List.{AllByRecursion}
 use Rattle.nl_core.specs.declared.error.DecodeError.{DecodeError}
+use Rattle.nl_core.specs.declared.default_nla.DefaultNla.{DefaultNla}
 use Rattle.nl_core.specs.Numbers.{le32, u32_at, le_i32, i32_at}
-use Rattle.nl_core.specs.Reading.{◌>>=◌, sized}
 use Rattle.rt_other.specs.declared.address_family.AddressFamily.TheVariants.{Unspec}
 use Rattle.rt_other.specs.Family as Family
-use Rattle.nl_core.specs.Attribute.{NoneTooLong}
-use Rattle.rt_other.specs.Opaque.{kind, value, opaque_text, opaque_fit, opaque_at, IsInRange}
+use Rattle.rt_other.specs.Message as message
+use Rattle.rt_other.specs.Opaque.{kind, value, attribute_at, IsInRange}
+use Rattle.rt_other.specs.declared.message.Message.{Message}
 use Rattle.rt_other.specs.declared.tc.TcHeader.{TcHeader}
-use Rattle.rt_other.specs.declared.tc.TcMessage.{TcMessage}
 
 -- ---- the header
 
@@ -19,32 +19,42 @@ unfoldable pub header_text : TcHeader → List ℕ
 header_text h = (Family.family_byte h.family ∷ 0 ∷ 0 ∷ 0 ∷ []) ++ le_i32 h.index ++ le32 h.handle ++ le32 h.parent ++ le32 h.info
 
 -- The header at the front of bytes.
-abbrev pub header_at : List ℕ → Result TcHeader DecodeError
-header_at bytes = sized 20 bytes (record {
+abbrev pub header_at : List ℕ → TcHeader
+header_at bytes = record {
   family = Family.family_of (slice_index bytes 0);
   index = i32_at bytes 4;
   handle = u32_at bytes 8;
   parent = u32_at bytes 12;
   info = u32_at bytes 16;
-})
+}
 
 -- The header of zeros.
 abbrev pub default_header : TcHeader
-default_header = record { family = Unspec; index = pos 0; handle = 0; parent = 0; info = 0 }
+default_header = record {
+  family = Unspec;
+  index = pos 0;
+  handle = 0;
+  parent = 0;
+  info = 0;
+}
 
 -- ---- the message
 
+-- A header and the attributes after it.
+abbrev pub TcMessage : Type 0
+TcMessage = Message TcHeader DefaultNla
+
 -- The bytes of a message.
 abbrev pub text : TcMessage → List ℕ
-text m = header_text m.header ++ opaque_text m.attributes
+text m = message.text header_text kind value m
 
 -- Whether each attribute fits, and the message a frame.
 abbrev pub fits : TcMessage → Bool
-fits m = opaque_fit m.attributes && nat_le (16 + length (text m)) 4_294_967_295
+fits m = message.fits header_text kind value m
 
 -- The message of bytes, or the first cause from the left why they are none.
 abbrev pub message_at : List ℕ → Result TcMessage DecodeError
-message_at bytes = header_at bytes >>= λ h. opaque_at (drop 20 bytes) >>= λ a. Ok (record { header = h; attributes = a })
+message_at bytes = message.message_at 20 header_at (λ h. attribute_at) bytes
 
 -- ---- what reads back
 
@@ -56,10 +66,10 @@ pub record HeaderReadsBack (h : TcHeader) : Type 0 where
   pub of_parent : h.parent < 2 ^ 32
   pub of_info : h.info < 2 ^ 32
 
--- Each message that fits reads back from its bytes, where its header and its attributes do.
-abbrev pub MessagesReadBack : Type 0
-MessagesReadBack = (m : TcMessage) → fits m ≡ true → HeaderReadsBack m.header → AllByRecursion IsInRange m.attributes → message_at (text m) ≡ Ok m
+-- A message reads back where its header and each of its attributes does.
+abbrev pub ReadsBack : TcMessage → Type 0
+ReadsBack m = HeaderReadsBack m.header × AllByRecursion IsInRange m.attributes
 
--- A message that fits has no attribute at any depth that is longer than 65,535.
-abbrev pub FittingIsShort : Type 0
-FittingIsShort = (m : TcMessage) → fits m ≡ true → NoneTooLong kind value m.attributes
+-- Each message that fits and reads back does so from its bytes.
+abbrev pub MessagesReadBack : Type 0
+MessagesReadBack = (m : TcMessage) → fits m ≡ true → ReadsBack m → message_at (text m) ≡ Ok m

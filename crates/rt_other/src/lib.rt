@@ -7,6 +7,7 @@ mod address_family;
 mod ip;
 mod laws;
 mod link;
+mod message;
 mod route;
 mod route_attribute;
 mod rule;
@@ -18,11 +19,13 @@ pub use address::{AddressHeader, AddressMessage};
 pub use address_family::AddressFamily;
 pub use ip::{IpAddr, Ipv4Addr, Ipv6Addr};
 pub use laws::{
-    address_messages_read_back, fitting_messages_are_short, link_messages_read_back,
+    address_messages_read_back, counters_read_back, link_messages_read_back,
+    messages_fit_where_short, messages_read_back, read_messages_read_back,
     route_messages_read_back, rule_messages_read_back, tc_action_messages_read_back,
     tc_messages_read_back,
 };
-pub use link::{LinkHeader, LinkMessage};
+pub use link::{IFF_UP, LinkHeader, LinkMessage};
+pub use message::{Attribute, Fixed, Header, Message};
 pub use route::{RouteHeader, RouteMessage, RouteProtocol, RouteType};
 pub use route_attribute::{RouteAddress, RouteAttribute};
 pub use rule::{RuleHeader, RuleMessage};

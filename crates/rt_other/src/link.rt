@@ -1,21 +1,20 @@
 //! Messages on links.
 #![tactic(auto, using(nl_core::proofs::Wire::writes, crate::proofs::Headers::headers))]
 
-ghost use Rattle.std.specs.Prelude.{◌≡◌, [], true};
-ghost use Rattle.nl_core.specs.Reading.{Gives};
-ghost use Rattle.rt_other.specs.Link.{header_text, header_at, default_header, text, fits, message_at};
+ghost use Rattle.std.specs.Prelude.{◌≡◌, true, refl};
+ghost use Rattle.std.proofs.Common.{arith, rules};
+ghost use Rattle.nl_core.specs.Reading.{sized};
+ghost use Rattle.rt_other.specs.Link.{header_text, header_at, default_header, HeaderReadsBack};
+ghost use Rattle.rt_other.specs.LinkLaws.{length-header, header-again, header-read};
 
 use crate::address_family::AddressFamily;
-use nl_core::{
-    CloneWith, DecodeError, DefaultNla, Emitable, Items, NoMemory, Parseable, emit_bytes,
-    parse_attributes, put, u16_at, u32_at,
-};
-use std::alloc::Global;
+use crate::message::{Fixed, Header, Message};
+use nl_core::{DecodeError, DefaultNla, Emitable, emit_bytes, u16_at, u32_at};
 
 const HEADER_LEN: usize = 16;
 
-// The longest frame, which has a header of 16 bytes before the message.
-const MOST: usize = 4_294_967_295;
+/// The flag of a link that is up, of include/uapi/linux/if.h.
+pub const IFF_UP: u32 = 1;
 
 /// The header of a message on a link, `struct ifinfomsg` of include/uapi/linux/rtnetlink.h.
 #[derive(Clone, Debug, Default, PartialEq, Eq, Drop)]
@@ -26,7 +25,7 @@ pub struct LinkHeader {
     pub link_layer_type: u16,
     /// The index of the link.
     pub index: u32,
-    /// The `IFF_` flags; bit 0 says that the link is up.
+    /// The `IFF_` flags; `IFF_UP` says that the link is up.
     pub flags: u32,
     /// Which flags are to change.
     pub change_mask: u32,
@@ -35,21 +34,9 @@ pub struct LinkHeader {
 impl LinkHeader {
     /// The header at the front of a payload; `TooSmall` where it has fewer than 16 bytes.
     pub fn parse(payload: &[u8]) -> Result<Self, DecodeError>
-        ensures { result ≡ header_at payload.now }
+        ensures { result ≡ sized 16 payload.now (header_at payload.now) }
     {
-        if payload.len() < HEADER_LEN {
-            return Err(DecodeError::TooSmall {
-                have: payload.len(),
-                need: HEADER_LEN,
-            });
-        }
-        Ok(LinkHeader {
-            interface_family: payload[0].into(),
-            link_layer_type: u16_at(payload, 2),
-            index: u32_at(payload, 4),
-            flags: u32_at(payload, 8),
-            change_mask: u32_at(payload, 12),
-        })
+        <LinkHeader as Fixed>::parse(payload)
     }
 
     // The bytes of the header.
@@ -100,71 +87,49 @@ impl Emitable for LinkHeader {
     }
 }
 
-/// A message on a link.
-#[derive(Debug, PartialEq, Eq, Drop)]
-pub struct LinkMessage {
-    pub header: LinkHeader,
-    pub attributes: Items<DefaultNla>,
-}
+impl Fixed for LinkHeader {
+    ghost LEN = { 16 };
 
-impl LinkMessage {
-    /// A message with a header of zeros and no attributes.
-    pub fn empty(alloc: Global) -> Self
-        ensures { result ≡ record { header = default_header; attributes = [] } }
-    {
-        LinkMessage {
-            header: LinkHeader::default(),
-            attributes: Items::new(alloc),
+    ghost read = { header_at };
+
+    ghost ReadsBack = { HeaderReadsBack };
+
+    ghost is_short = { omega arith };
+
+    ghost always_fits = { λ h. refl };
+
+    ghost text_length = { length-header };
+
+    ghost reads_back = { header-again };
+
+    ghost read_reads_back = { header-read };
+
+    const LEN: usize = HEADER_LEN;
+
+    fn at_front(bytes: &[u8]) -> Self {
+        LinkHeader {
+            interface_family: bytes[0].into(),
+            link_layer_type: u16_at(bytes, 2),
+            index: u32_at(bytes, 4),
+            flags: u32_at(bytes, 8),
+            change_mask: u32_at(bytes, 12),
         }
     }
-
-    /// The message of a payload: `TooSmall` where the header is cut short, else the first fault of
-    /// its attributes from the left.
-    pub fn parse(alloc: Global, payload: &[u8]) -> Result<Self, DecodeError>
-        ensures { Gives result (message_at payload.now) }
-    {
-        let header = LinkHeader::parse(payload)?;
-        let attributes = parse_attributes(alloc, &payload[HEADER_LEN..])?;
-        Ok(LinkMessage { header, attributes })
-    }
 }
 
-impl<'a> Parseable<&'a [u8]> for LinkMessage {
-    ghost readable = { λ _. true };
+impl Header for LinkHeader {
+    type Param = ();
 
-    ghost reads = { λ bytes. message_at bytes.now };
+    ghost zeros = { default_header };
 
-    fn parse(alloc: Global, buf: &&'a [u8]) -> Result<Self, DecodeError> {
-        LinkMessage::parse(alloc, *buf)
-    }
+    ghost by = { λ _. tt };
+
+    ghost default_is_zeros = { λ h is. Prim.search (rules, is) };
+
+    ghost clone_is_same = { λ h g is. Prim.search (rules, is) };
+
+    fn param(&self) {}
 }
 
-impl Emitable for LinkMessage {
-    ghost text = { text };
-
-    ghost fitting = { fits };
-
-    fn fits(&self) -> bool {
-        let attributes = self.attributes.as_slice();
-        attributes.fits() && 16 + HEADER_LEN + attributes.buffer_len() <= MOST
-    }
-
-    fn buffer_len(&self) -> usize {
-        HEADER_LEN + self.attributes.as_slice().buffer_len()
-    }
-
-    fn emit(&self, buf: &mut [u8]) {
-        self.header.emit(buf);
-        put(&self.attributes.as_slice(), buf, HEADER_LEN);
-    }
-}
-
-impl CloneWith for LinkMessage {
-    fn clone_with(&self) -> Result<Self, NoMemory> {
-        let attributes = self.attributes.clone_with()?;
-        Ok(LinkMessage {
-            header: self.header.clone()?,
-            attributes,
-        })
-    }
-}
+/// A message on a link.
+pub type LinkMessage = Message<LinkHeader, DefaultNla>;

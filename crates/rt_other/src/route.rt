@@ -1,22 +1,18 @@
 //! Messages on routes.
 #![tactic(auto, using(nl_core::proofs::Wire::writes, crate::proofs::Headers::headers))]
 
-ghost use Rattle.std.specs.Prelude.{◌≡◌, [], true};
-ghost use Rattle.nl_core.specs.Reading.{Gives};
-ghost use Rattle.rt_other.specs.Route.{protocol_at, header_text, header_at, default_header, text, fits, message_at};
+ghost use Rattle.std.specs.Prelude.{◌≡◌, true, refl};
+ghost use Rattle.std.proofs.Common.{arith, rules};
+ghost use Rattle.nl_core.specs.Reading.{sized};
+ghost use Rattle.rt_other.specs.Route.{protocol_at, header_text, header_at, default_header, HeaderReadsBack};
+ghost use Rattle.rt_other.specs.RouteLaws.{length-header, header-again, header-read};
 
 use crate::address_family::AddressFamily;
+use crate::message::{Fixed, Header, Message};
 use crate::route_attribute::RouteAttribute;
-use nl_core::{
-    CloneWith, DecodeError, Emitable, Items, NoMemory, Parseable, emit_bytes,
-    parse_attributes_with, parse_u8, put, u32_at,
-};
-use std::alloc::Global;
+use nl_core::{DecodeError, Emitable, emit_bytes, parse_u8, u32_at};
 
 const HEADER_LEN: usize = 12;
-
-// The longest frame, which has a header of 16 bytes before the message.
-const MOST: usize = 4_294_967_295;
 
 /// Who made a route, an `RTPROT_` number of include/uapi/linux/rtnetlink.h.
 #[derive(Clone, Debug, Default, PartialEq, Eq, Drop)]
@@ -93,25 +89,9 @@ pub struct RouteHeader {
 impl RouteHeader {
     /// The header at the front of a payload; `TooSmall` where it has fewer than 12 bytes.
     pub fn parse(payload: &[u8]) -> Result<Self, DecodeError>
-        ensures { result ≡ header_at payload.now }
+        ensures { result ≡ sized 12 payload.now (header_at payload.now) }
     {
-        if payload.len() < HEADER_LEN {
-            return Err(DecodeError::TooSmall {
-                have: payload.len(),
-                need: HEADER_LEN,
-            });
-        }
-        Ok(RouteHeader {
-            address_family: payload[0].into(),
-            destination_prefix_length: payload[1],
-            source_prefix_length: payload[2],
-            tos: payload[3],
-            table: payload[4],
-            protocol: RouteProtocol(payload[5]),
-            scope: payload[6],
-            kind: RouteType(payload[7]),
-            flags: u32_at(payload, 8),
-        })
+        <RouteHeader as Fixed>::parse(payload)
     }
 
     // The bytes of the header.
@@ -155,75 +135,55 @@ impl Emitable for RouteHeader {
     }
 }
 
-/// A message on a route.
-#[derive(Debug, PartialEq, Eq, Drop)]
-pub struct RouteMessage {
-    pub header: RouteHeader,
-    pub attributes: Items<RouteAttribute>,
-}
+impl Fixed for RouteHeader {
+    ghost LEN = { 12 };
 
-impl RouteMessage {
-    /// A message with a header of zeros and no attributes.
-    pub fn empty(alloc: Global) -> Self
-        ensures { result ≡ record { header = default_header; attributes = [] } }
-    {
-        RouteMessage {
-            header: RouteHeader::default(),
-            attributes: Items::new(alloc),
+    ghost read = { header_at };
+
+    ghost ReadsBack = { HeaderReadsBack };
+
+    ghost is_short = { omega arith };
+
+    ghost always_fits = { λ h. refl };
+
+    ghost text_length = { length-header };
+
+    ghost reads_back = { header-again };
+
+    ghost read_reads_back = { header-read };
+
+    const LEN: usize = HEADER_LEN;
+
+    fn at_front(bytes: &[u8]) -> Self {
+        RouteHeader {
+            address_family: bytes[0].into(),
+            destination_prefix_length: bytes[1],
+            source_prefix_length: bytes[2],
+            tos: bytes[3],
+            table: bytes[4],
+            protocol: RouteProtocol(bytes[5]),
+            scope: bytes[6],
+            kind: RouteType(bytes[7]),
+            flags: u32_at(bytes, 8),
         }
     }
+}
 
-    /// The message of a payload: `TooSmall` where the header is cut short, else the first fault of
-    /// its attributes from the left.
-    pub fn parse(alloc: Global, payload: &[u8]) -> Result<Self, DecodeError>
-        ensures { Gives result (message_at payload.now) }
-    {
-        let header = RouteHeader::parse(payload)?;
-        let attributes = parse_attributes_with(
-            alloc,
-            &payload[HEADER_LEN..],
-            header.address_family,
-        )?;
-        Ok(RouteMessage { header, attributes })
+impl Header for RouteHeader {
+    type Param = AddressFamily;
+
+    ghost zeros = { default_header };
+
+    ghost by = { λ h. h.address_family };
+
+    ghost default_is_zeros = { λ h is. Prim.search (rules, is) };
+
+    ghost clone_is_same = { λ h g is. Prim.search (rules, is) };
+
+    fn param(&self) -> AddressFamily {
+        self.address_family
     }
 }
 
-impl<'a> Parseable<&'a [u8]> for RouteMessage {
-    ghost readable = { λ _. true };
-
-    ghost reads = { λ bytes. message_at bytes.now };
-
-    fn parse(alloc: Global, buf: &&'a [u8]) -> Result<Self, DecodeError> {
-        RouteMessage::parse(alloc, *buf)
-    }
-}
-
-impl Emitable for RouteMessage {
-    ghost text = { text };
-
-    ghost fitting = { fits };
-
-    fn fits(&self) -> bool {
-        let attributes = self.attributes.as_slice();
-        attributes.fits() && 16 + HEADER_LEN + attributes.buffer_len() <= MOST
-    }
-
-    fn buffer_len(&self) -> usize {
-        HEADER_LEN + self.attributes.as_slice().buffer_len()
-    }
-
-    fn emit(&self, buf: &mut [u8]) {
-        self.header.emit(buf);
-        put(&self.attributes.as_slice(), buf, HEADER_LEN);
-    }
-}
-
-impl CloneWith for RouteMessage {
-    fn clone_with(&self) -> Result<Self, NoMemory> {
-        let attributes = self.attributes.clone_with()?;
-        Ok(RouteMessage {
-            header: self.header.clone()?,
-            attributes,
-        })
-    }
-}
+/// A message on a route.
+pub type RouteMessage = Message<RouteHeader, RouteAttribute>;

@@ -2,15 +2,16 @@
 #![tactic(auto, using(nl_core::proofs::Wire::writes))]
 
 ghost use Rattle.std.specs.Prelude.{◌≡◌, true, length};
-ghost use Rattle.nl_core.specs.Attribute.{is_checked};
 ghost use Rattle.nl_core.specs.Reading.{Gives};
-ghost use Rattle.rt_other.specs.RouteAttribute.{address_text, address_at, kind, value, attribute_at};
+ghost use Rattle.rt_other.specs.RouteAttribute.{address_text, address_at, kind, value, attribute_at, ReadsBack};
+ghost use Rattle.rt_other.specs.RouteAttributeLaws.{attribute-again, attribute-read};
 
 use crate::address_family::AddressFamily;
 use crate::ip::{Ipv4Addr, Ipv6Addr};
+use crate::message::Attribute;
 use nl_core::{
-    CloneWith, DecodeError, DefaultNla, Emitable, Nla, NlaBuffer, NoMemory, Octets, Parseable,
-    ParseableParametrized, emit_bytes, emit_u32, parse_u32,
+    DecodeError, DefaultNla, Emitable, Nla, NlaBuffer, NoMemory, Octets, Parseable,
+    ParseableParametrized, TryClone, emit_bytes, emit_u32, parse_u32,
 };
 use std::alloc::Global;
 
@@ -127,11 +128,12 @@ impl Nla for RouteAttribute {
 
     fn emit_value(&self, buf: &mut [u8]) {
         match self {
-            RouteAttribute::Destination(address) => address.emit(buf),
-            RouteAttribute::Gateway(address) => address.emit(buf),
-            RouteAttribute::Oif(number) => emit_u32(buf, *number),
-            RouteAttribute::Priority(number) => emit_u32(buf, *number),
-            RouteAttribute::Table(number) => emit_u32(buf, *number),
+            RouteAttribute::Destination(address) | RouteAttribute::Gateway(address) => {
+                address.emit(buf);
+            }
+            RouteAttribute::Oif(number)
+            | RouteAttribute::Priority(number)
+            | RouteAttribute::Table(number) => emit_u32(buf, *number),
             RouteAttribute::Other(nla) => nla.emit_value(buf),
         }
     }
@@ -149,8 +151,6 @@ impl Nla for RouteAttribute {
 }
 
 impl<'a> ParseableParametrized<NlaBuffer<'a>, AddressFamily> for RouteAttribute {
-    ghost readable = { is_checked };
-
     ghost reads = { attribute_at };
 
     fn parse_with_param(
@@ -170,7 +170,15 @@ impl<'a> ParseableParametrized<NlaBuffer<'a>, AddressFamily> for RouteAttribute 
     }
 }
 
-impl CloneWith for RouteAddress {
+impl<'a> Attribute<'a, AddressFamily> for RouteAttribute {
+    ghost ReadsBack = { ReadsBack };
+
+    ghost reads_back = { attribute-again };
+
+    ghost read_reads_back = { attribute-read };
+}
+
+impl TryClone for RouteAddress {
     fn clone_with(&self) -> Result<Self, NoMemory> {
         match self {
             RouteAddress::Inet(address) => Ok(RouteAddress::Inet(Ipv4Addr(address.0))),
@@ -180,7 +188,7 @@ impl CloneWith for RouteAddress {
     }
 }
 
-impl CloneWith for RouteAttribute {
+impl TryClone for RouteAttribute {
     fn clone_with(&self) -> Result<Self, NoMemory> {
         match self {
             RouteAttribute::Destination(address) => {

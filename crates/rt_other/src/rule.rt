@@ -1,21 +1,17 @@
 //! Messages on rules of route look-ups.
 #![tactic(auto, using(nl_core::proofs::Wire::writes, crate::proofs::Headers::headers))]
 
-ghost use Rattle.std.specs.Prelude.{◌≡◌, [], true};
-ghost use Rattle.nl_core.specs.Reading.{Gives};
-ghost use Rattle.rt_other.specs.Rule.{header_text, header_at, default_header, text, fits, message_at};
+ghost use Rattle.std.specs.Prelude.{◌≡◌, true, refl};
+ghost use Rattle.std.proofs.Common.{arith, rules};
+ghost use Rattle.nl_core.specs.Reading.{sized};
+ghost use Rattle.rt_other.specs.Rule.{header_text, header_at, default_header, HeaderReadsBack};
+ghost use Rattle.rt_other.specs.RuleLaws.{length-header, header-again, header-read};
 
 use crate::address_family::AddressFamily;
-use nl_core::{
-    CloneWith, DecodeError, DefaultNla, Emitable, Items, NoMemory, Parseable, emit_bytes,
-    parse_attributes, put, u32_at,
-};
-use std::alloc::Global;
+use crate::message::{Fixed, Header, Message};
+use nl_core::{DecodeError, DefaultNla, Emitable, emit_bytes, u32_at};
 
 const HEADER_LEN: usize = 12;
-
-// The longest frame, which has a header of 16 bytes before the message.
-const MOST: usize = 4_294_967_295;
 
 /// The header of a message on a rule of route look-ups, `struct fib_rule_hdr` of
 /// include/uapi/linux/fib_rules.h.
@@ -40,23 +36,9 @@ pub struct RuleHeader {
 impl RuleHeader {
     /// The header at the front of a payload; `TooSmall` where it has fewer than 12 bytes.
     pub fn parse(payload: &[u8]) -> Result<Self, DecodeError>
-        ensures { result ≡ header_at payload.now }
+        ensures { result ≡ sized 12 payload.now (header_at payload.now) }
     {
-        if payload.len() < HEADER_LEN {
-            return Err(DecodeError::TooSmall {
-                have: payload.len(),
-                need: HEADER_LEN,
-            });
-        }
-        Ok(RuleHeader {
-            family: payload[0].into(),
-            dst_len: payload[1],
-            src_len: payload[2],
-            tos: payload[3],
-            table: payload[4],
-            action: payload[7],
-            flags: u32_at(payload, 8),
-        })
+        <RuleHeader as Fixed>::parse(payload)
     }
 
     // The bytes of the header.
@@ -100,71 +82,51 @@ impl Emitable for RuleHeader {
     }
 }
 
-/// A message on a rule of route look-ups.
-#[derive(Debug, PartialEq, Eq, Drop)]
-pub struct RuleMessage {
-    pub header: RuleHeader,
-    pub attributes: Items<DefaultNla>,
-}
+impl Fixed for RuleHeader {
+    ghost LEN = { 12 };
 
-impl RuleMessage {
-    /// A message with a header of zeros and no attributes.
-    pub fn empty(alloc: Global) -> Self
-        ensures { result ≡ record { header = default_header; attributes = [] } }
-    {
-        RuleMessage {
-            header: RuleHeader::default(),
-            attributes: Items::new(alloc),
+    ghost read = { header_at };
+
+    ghost ReadsBack = { HeaderReadsBack };
+
+    ghost is_short = { omega arith };
+
+    ghost always_fits = { λ h. refl };
+
+    ghost text_length = { length-header };
+
+    ghost reads_back = { header-again };
+
+    ghost read_reads_back = { header-read };
+
+    const LEN: usize = HEADER_LEN;
+
+    fn at_front(bytes: &[u8]) -> Self {
+        RuleHeader {
+            family: bytes[0].into(),
+            dst_len: bytes[1],
+            src_len: bytes[2],
+            tos: bytes[3],
+            table: bytes[4],
+            action: bytes[7],
+            flags: u32_at(bytes, 8),
         }
     }
-
-    /// The message of a payload: `TooSmall` where the header is cut short, else the first fault of
-    /// its attributes from the left.
-    pub fn parse(alloc: Global, payload: &[u8]) -> Result<Self, DecodeError>
-        ensures { Gives result (message_at payload.now) }
-    {
-        let header = RuleHeader::parse(payload)?;
-        let attributes = parse_attributes(alloc, &payload[HEADER_LEN..])?;
-        Ok(RuleMessage { header, attributes })
-    }
 }
 
-impl<'a> Parseable<&'a [u8]> for RuleMessage {
-    ghost readable = { λ _. true };
+impl Header for RuleHeader {
+    type Param = ();
 
-    ghost reads = { λ bytes. message_at bytes.now };
+    ghost zeros = { default_header };
 
-    fn parse(alloc: Global, buf: &&'a [u8]) -> Result<Self, DecodeError> {
-        RuleMessage::parse(alloc, *buf)
-    }
+    ghost by = { λ _. tt };
+
+    ghost default_is_zeros = { λ h is. Prim.search (rules, is) };
+
+    ghost clone_is_same = { λ h g is. Prim.search (rules, is) };
+
+    fn param(&self) {}
 }
 
-impl Emitable for RuleMessage {
-    ghost text = { text };
-
-    ghost fitting = { fits };
-
-    fn fits(&self) -> bool {
-        let attributes = self.attributes.as_slice();
-        attributes.fits() && 16 + HEADER_LEN + attributes.buffer_len() <= MOST
-    }
-
-    fn buffer_len(&self) -> usize {
-        HEADER_LEN + self.attributes.as_slice().buffer_len()
-    }
-
-    fn emit(&self, buf: &mut [u8]) {
-        self.header.emit(buf);
-        put(&self.attributes.as_slice(), buf, HEADER_LEN);
-    }
-}
-
-impl CloneWith for RuleMessage {
-    fn clone_with(&self) -> Result<Self, NoMemory> {
-        let attributes = self.attributes.clone_with()?;
-        Ok(RuleMessage {
-            header: self.header.clone()?,
-            attributes,
-        })
-    }
-}
+/// A message on a rule of route look-ups.
+pub type RuleMessage = Message<RuleHeader, DefaultNla>;

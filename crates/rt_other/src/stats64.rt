@@ -5,12 +5,12 @@ ghost use Rattle.nl_core.specs.Numbers.{words64};
 ghost use Rattle.nl_core.specs.Reading.{Gives};
 ghost use Rattle.rt_other.specs.Stats.{stats_at, stats_fit};
 
-use nl_core::{CloneWith, DecodeError, Emitable, Items, NoMemory, emit_u64s, u64_at};
+use nl_core::{DecodeError, Emitable, Items, NoMemory, TryClone, emit_u64s, u64_at};
 use std::alloc::Global;
 
 const COUNTER_LEN: usize = 8;
 
-/// A list of counters, each of eight bytes, the lowest first.
+/// A list of counters, each of eight bytes, little endian.
 #[derive(Debug, PartialEq, Eq, Drop)]
 pub struct Stats64(pub Items<u64>);
 
@@ -48,7 +48,7 @@ impl Emitable for Stats64 {
     }
 }
 
-impl CloneWith for Stats64 {
+impl TryClone for Stats64 {
     fn clone_with(&self) -> Result<Self, NoMemory> {
         Ok(Stats64(self.0.clone_with()?))
     }

@@ -1,21 +1,17 @@
 //! Messages on traffic control: queues, classes, filters and chains.
 #![tactic(auto, using(nl_core::proofs::Wire::writes, crate::proofs::Headers::headers))]
 
-ghost use Rattle.std.specs.Prelude.{◌≡◌, [], true};
-ghost use Rattle.nl_core.specs.Reading.{Gives};
-ghost use Rattle.rt_other.specs.Tc.{header_text, header_at, default_header, text, fits, message_at};
+ghost use Rattle.std.specs.Prelude.{◌≡◌, true, refl};
+ghost use Rattle.std.proofs.Common.{arith, rules};
+ghost use Rattle.nl_core.specs.Reading.{sized};
+ghost use Rattle.rt_other.specs.Tc.{header_text, header_at, default_header, HeaderReadsBack};
+ghost use Rattle.rt_other.specs.TcLaws.{length-header, header-again, header-read};
 
 use crate::address_family::AddressFamily;
-use nl_core::{
-    CloneWith, DecodeError, DefaultNla, Emitable, Items, NoMemory, Parseable, emit_bytes, i32_at,
-    parse_attributes, put, u32_at,
-};
-use std::alloc::Global;
+use crate::message::{Fixed, Header, Message};
+use nl_core::{DecodeError, DefaultNla, Emitable, emit_bytes, i32_at, u32_at};
 
 const HEADER_LEN: usize = 20;
-
-// The longest frame, which has a header of 16 bytes before the message.
-const MOST: usize = 4_294_967_295;
 
 /// The header of a message on traffic control, `struct tcmsg` of include/uapi/linux/rtnetlink.h.
 #[derive(Clone, Debug, Default, PartialEq, Eq, Drop)]
@@ -35,21 +31,9 @@ pub struct TcHeader {
 impl TcHeader {
     /// The header at the front of a payload; `TooSmall` where it has fewer than 20 bytes.
     pub fn parse(payload: &[u8]) -> Result<Self, DecodeError>
-        ensures { result ≡ header_at payload.now }
+        ensures { result ≡ sized 20 payload.now (header_at payload.now) }
     {
-        if payload.len() < HEADER_LEN {
-            return Err(DecodeError::TooSmall {
-                have: payload.len(),
-                need: HEADER_LEN,
-            });
-        }
-        Ok(TcHeader {
-            family: payload[0].into(),
-            index: i32_at(payload, 4),
-            handle: u32_at(payload, 8),
-            parent: u32_at(payload, 12),
-            info: u32_at(payload, 16),
-        })
+        <TcHeader as Fixed>::parse(payload)
     }
 
     // The bytes of the header.
@@ -104,71 +88,49 @@ impl Emitable for TcHeader {
     }
 }
 
-/// A message on traffic control.
-#[derive(Debug, PartialEq, Eq, Drop)]
-pub struct TcMessage {
-    pub header: TcHeader,
-    pub attributes: Items<DefaultNla>,
-}
+impl Fixed for TcHeader {
+    ghost LEN = { 20 };
 
-impl TcMessage {
-    /// A message with a header of zeros and no attributes.
-    pub fn empty(alloc: Global) -> Self
-        ensures { result ≡ record { header = default_header; attributes = [] } }
-    {
-        TcMessage {
-            header: TcHeader::default(),
-            attributes: Items::new(alloc),
+    ghost read = { header_at };
+
+    ghost ReadsBack = { HeaderReadsBack };
+
+    ghost is_short = { omega arith };
+
+    ghost always_fits = { λ h. refl };
+
+    ghost text_length = { length-header };
+
+    ghost reads_back = { header-again };
+
+    ghost read_reads_back = { header-read };
+
+    const LEN: usize = HEADER_LEN;
+
+    fn at_front(bytes: &[u8]) -> Self {
+        TcHeader {
+            family: bytes[0].into(),
+            index: i32_at(bytes, 4),
+            handle: u32_at(bytes, 8),
+            parent: u32_at(bytes, 12),
+            info: u32_at(bytes, 16),
         }
     }
-
-    /// The message of a payload: `TooSmall` where the header is cut short, else the first fault of
-    /// its attributes from the left.
-    pub fn parse(alloc: Global, payload: &[u8]) -> Result<Self, DecodeError>
-        ensures { Gives result (message_at payload.now) }
-    {
-        let header = TcHeader::parse(payload)?;
-        let attributes = parse_attributes(alloc, &payload[HEADER_LEN..])?;
-        Ok(TcMessage { header, attributes })
-    }
 }
 
-impl<'a> Parseable<&'a [u8]> for TcMessage {
-    ghost readable = { λ _. true };
+impl Header for TcHeader {
+    type Param = ();
 
-    ghost reads = { λ bytes. message_at bytes.now };
+    ghost zeros = { default_header };
 
-    fn parse(alloc: Global, buf: &&'a [u8]) -> Result<Self, DecodeError> {
-        TcMessage::parse(alloc, *buf)
-    }
+    ghost by = { λ _. tt };
+
+    ghost default_is_zeros = { λ h is. Prim.search (rules, is) };
+
+    ghost clone_is_same = { λ h g is. Prim.search (rules, is) };
+
+    fn param(&self) {}
 }
 
-impl Emitable for TcMessage {
-    ghost text = { text };
-
-    ghost fitting = { fits };
-
-    fn fits(&self) -> bool {
-        let attributes = self.attributes.as_slice();
-        attributes.fits() && 16 + HEADER_LEN + attributes.buffer_len() <= MOST
-    }
-
-    fn buffer_len(&self) -> usize {
-        HEADER_LEN + self.attributes.as_slice().buffer_len()
-    }
-
-    fn emit(&self, buf: &mut [u8]) {
-        self.header.emit(buf);
-        put(&self.attributes.as_slice(), buf, HEADER_LEN);
-    }
-}
-
-impl CloneWith for TcMessage {
-    fn clone_with(&self) -> Result<Self, NoMemory> {
-        let attributes = self.attributes.clone_with()?;
-        Ok(TcMessage {
-            header: self.header.clone()?,
-            attributes,
-        })
-    }
-}
+/// A message on traffic control.
+pub type TcMessage = Message<TcHeader, DefaultNla>;

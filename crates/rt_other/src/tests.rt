@@ -1,5 +1,6 @@
+//! Tests of messages, families and counters.
 use crate::*;
-use nl_core::{CloneWith, DecodeError, DefaultNla, Emitable, Octets, Parseable};
+use nl_core::{DecodeError, DefaultNla, Emitable, Octets, Parseable, TryClone};
 use std::alloc::Global;
 use std::test::Fail;
 
@@ -11,6 +12,18 @@ fn written<M: Emitable>(alloc: Global, message: &M) -> Result<Vec<u8>, Fail> {
     let mut bytes = vec![in alloc; 0xaa_u8; len]?;
     message.emit(bytes.as_mut_slice());
     Ok(bytes)
+}
+
+// The text of what a payload reads as, which is equal to its clone.
+fn rewritten<'a, M>(alloc: Global, payload: &'a [u8]) -> Result<Vec<u8>, Fail>
+where
+    M: Parseable<&'a [u8]> + Emitable + TryClone + PartialEq + Drop,
+{
+    let message = M::parse(alloc, &payload)?;
+    if message.clone_with()? != message {
+        return Err(Fail::from("another clone"));
+    }
+    written(alloc, &message)
 }
 
 const ROUTE: &[u8] = b"\x02\x18\0\0\xfe\x03\0\x01\0\0\0\0\
@@ -26,9 +39,7 @@ const ROUTE_OF_LABELS: &[u8] = b"\x1c\x14\0\0\xfe\0\0\x01\0\0\0\0\x07\0\x01\0\x1
 fn routes_read_and_written(rt: HostRuntime) -> Result<(), Fail> {
     let alloc = rt.alloc();
     for bytes in [ROUTE, ROUTE6, ROUTE_OF_LABELS] {
-        let message = RouteMessage::parse(alloc, bytes)?;
-        assert_eq!(rt; written(alloc, &message)?.as_slice(), bytes);
-        assert_eq!(rt; message.clone_with()?, message);
+        assert_eq!(rt; rewritten::<RouteMessage>(alloc, bytes)?.as_slice(), bytes);
     }
     let route = RouteMessage::parse(alloc, ROUTE)?;
     assert_eq!(rt; route.header.protocol, RouteProtocol::from(3));
@@ -83,55 +94,31 @@ const TC_ACTION: &[u8] = b"\0\0\0\0\x04\0\x01\x80";
 #[test]
 fn other_messages_read_and_written(rt: HostRuntime) -> Result<(), Fail> {
     let alloc = rt.alloc();
-    let link = LinkMessage::parse(alloc, LINK)?;
-    assert_eq!(rt; link.header.flags, 0x0001_0043);
-    assert_eq!(rt; link.clone_with()?, link);
-    assert_eq!(rt; written(alloc, &link)?.as_slice(), LINK);
-    let address = AddressMessage::parse(alloc, ADDRESS)?;
-    assert_eq!(rt; address.clone_with()?, address);
-    assert_eq!(rt; written(alloc, &address)?.as_slice(), ADDRESS);
-    let rule = RuleMessage::parse(alloc, RULE)?;
-    assert_eq!(rt; rule.clone_with()?, rule);
-    assert_eq!(rt; written(alloc, &rule)?.as_slice(), RULE);
-    let tc = TcMessage::parse(alloc, TC)?;
-    assert_eq!(rt; tc.header.index, -2);
-    assert_eq!(rt; tc.clone_with()?, tc);
-    assert_eq!(rt; written(alloc, &tc)?.as_slice(), TC);
-    let action = TcActionMessage::parse(alloc, TC_ACTION)?;
-    assert_eq!(rt; action.clone_with()?, action);
-    assert_eq!(rt; written(alloc, &action)?.as_slice(), TC_ACTION);
+    assert_eq!(rt; rewritten::<LinkMessage>(alloc, LINK)?.as_slice(), LINK);
+    assert_eq!(rt;
+        rewritten::<AddressMessage>(alloc, ADDRESS)?.as_slice(),
+        ADDRESS
+    );
+    assert_eq!(rt; rewritten::<RuleMessage>(alloc, RULE)?.as_slice(), RULE);
+    assert_eq!(rt; rewritten::<TcMessage>(alloc, TC)?.as_slice(), TC);
+    assert_eq!(rt;
+        rewritten::<TcActionMessage>(alloc, TC_ACTION)?.as_slice(),
+        TC_ACTION
+    );
+    let flags = LinkHeader::parse(LINK)?.flags;
+    assert_eq!(rt; flags & IFF_UP, IFF_UP);
+    assert_eq!(rt; TcHeader::parse(TC)?.index, -2);
     Ok(())
 }
 
 #[test]
 fn empty_messages(rt: HostRuntime) -> Result<(), Fail> {
     let alloc = rt.alloc();
-    let zeros = [0; 20];
-    assert_eq!(rt;
-        written(alloc, &RouteMessage::empty(alloc))?.as_slice(),
-        &zeros[..12]
-    );
-    assert_eq!(rt;
-        written(alloc, &LinkMessage::empty(alloc))?.as_slice(),
-        &zeros[..16]
-    );
-    assert_eq!(rt;
-        written(alloc, &AddressMessage::empty(alloc))?.as_slice(),
-        &zeros[..8]
-    );
-    assert_eq!(rt;
-        written(alloc, &RuleMessage::empty(alloc))?.as_slice(),
-        &zeros[..12]
-    );
-    assert_eq!(rt;
-        written(alloc, &TcMessage::empty(alloc))?.as_slice(),
-        &zeros[..20]
-    );
-    assert_eq!(rt;
-        written(alloc, &TcActionMessage::empty(alloc))?.as_slice(),
-        &zeros[..4]
-    );
-    assert_eq!(rt; LinkHeader::parse(&zeros[..16]), Ok(LinkHeader::default()));
+    let zeros = [0; 16];
+    let link = LinkMessage::empty(alloc);
+    assert_eq!(rt; written(alloc, &link)?.as_slice(), &zeros[..16]);
+    let route = RouteMessage::empty(alloc);
+    assert_eq!(rt; written(alloc, &route)?.as_slice(), &zeros[..12]);
     let short = DecodeError::TooSmall { have: 3, need: 4 };
     assert_eq!(rt; TcActionHeader::parse(&zeros[..3]), Err(short));
     Ok(())
@@ -148,7 +135,10 @@ fn longest_attribute_of_a_link(rt: HostRuntime) -> Result<(), Fail> {
     value.push(0)?;
     link.attributes.push(DefaultNla::new(7, value))?;
     assert!(rt; !link.fits());
-    fitting_messages_are_short();
+    messages_fit_where_short::<LinkHeader, DefaultNla>();
+    messages_read_back::<LinkHeader, DefaultNla>();
+    read_messages_read_back::<RouteHeader, RouteAttribute>();
+    counters_read_back();
     link_messages_read_back();
     address_messages_read_back();
     route_messages_read_back();

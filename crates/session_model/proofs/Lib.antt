@@ -1,5 +1,6 @@
-pub mod Places
-pub mod Arrived
-pub mod Cuts
 pub mod Fronts
+pub mod Cuts
+pub mod Datagrams
+pub mod Arrived
+pub mod Places
 pub mod Taking

@@ -14,6 +14,7 @@ use Rattle.session_model.specs.declared.transcript.Record.TheVariants.{Recv, Ove
 use Rattle.session_model.specs.Events.{Event, record_events, events_of}
 use Rattle.session_model.specs.Awaited.{last_number}
 use Rattle.session_model.specs.Streams.{is_shut}
+use Rattle.session_model.specs.Lines.{newline}
 use Rattle.session_model.specs.Transcript.{record_line, lines_of, has_newline}
 
 -- Why a record isn't taken.
@@ -25,6 +26,10 @@ pub data Refusal : Type 0 where
   -- a frame of it doesn't fit
   TooLong : Refusal
 
+-- The greatest number of a message.
+abbrev pub greatest_number : ℕ
+greatest_number = 4294967295
+
 -- How many numbers a record takes.
 abbrev pub numbers_of : Record → ℕ
 numbers_of (Recv source bytes) = 0
@@ -33,27 +38,32 @@ numbers_of Close = 0
 numbers_of (Batch to frames) = length frames
 
 module _ {M : Type 0} (f : Format M) where
+  -- Whether what a frame reads as fits; one that can't be read is no message.
   abbrev pub read_fits : Result (NetlinkMessage M) DecodeError → Bool
   read_fits (Ok m) = message_fits f.text f.fits m
   read_fits (Err e) = true
+
+  -- Whether what a frame of a batch reads as fits.
+  abbrev pub frame_fits : BatchFrame → Bool
+  frame_fits frame = read_fits (frame_at f.reads frame.bytes)
 
   -- Whether each frame of a record fits.
   abbrev pub all_fit : Record → Bool
   all_fit (Recv source bytes) = true
   all_fit Overrun = true
   all_fit Close = true
-  all_fit (Batch to frames) = list_all (λ (frame : BatchFrame). read_fits (frame_at f.reads frame.bytes)) frames
+  all_fit (Batch to frames) = list_all frame_fits frames
 
 -- No record that is allowed has this line.
 abbrev pub IsNoRecord : (Record → Type 0) → List ℕ → Type 0
-IsNoRecord Allowed line = (r : Record) → Allowed r → line ++ 10 ∷ [] ≢ record_line r
+IsNoRecord Allowed line = (r : Record) → Allowed r → line ++ newline ∷ [] ≢ record_line r
 
 module _ {M : Type 0} (f : Format M) (s : Settings) where
   -- Why a record isn't taken after events, the first cause of these.
   abbrev pub refusal : List (Event M) → Record → Option Refusal
   refusal before r =
       if is_shut before then Some AfterClose
-      else if nat_lt 4294967295 (last_number s.start before + numbers_of r) then Some OutOfNumbers
+      else if nat_lt greatest_number (last_number s.start before + numbers_of r) then Some OutOfNumbers
       else if not (all_fit f r) then Some TooLong
       else None
 
@@ -63,10 +73,10 @@ module _ {M : Type 0} (f : Format M) (s : Settings) where
     AreTaken before [] = Unit {0}
     AreTaken before (r ∷ rs) = Allowed r × (refusal before r ≡ None) × AreTaken (before ++ record_events f r) rs
 
-    -- What is left behind records begins with a whole line that ends within the limit.
+    -- What is left after records begins with a whole line that ends within the limit.
     pub record BeginsLine (rs : List Record) (left line : List ℕ) : Type 0 where
       pub rest : List ℕ
-      pub spelled : left ≡ line ++ 10 ∷ rest
+      pub spelled : left ≡ line ++ newline ∷ rest
       pub one : has_newline line ≡ false
       pub within : length (lines_of rs) + length line < s.limit
 
@@ -81,7 +91,7 @@ module _ {M : Type 0} (f : Format M) (s : Settings) where
       pub entry : Record
       pub line : List ℕ
       pub begins : BeginsLine rs left line
-      pub is : line ++ 10 ∷ [] ≡ record_line entry
+      pub is : line ++ newline ∷ [] ≡ record_line entry
       pub allowed : Allowed entry
       pub cause : refusal (events_of f rs) entry ≡ Some why
 
@@ -91,7 +101,7 @@ module _ {M : Type 0} (f : Format M) (s : Settings) where
       pub part : has_newline left ≡ false
       pub within : length (lines_of rs) + length left ≤ s.limit
 
-    -- The input is longer than the limit, and no line behind the records ends within it.
+    -- The input is longer than the limit, and no line after the records ends within it.
     pub record IsPast (rs : List Record) (left : List ℕ) : Type 0 where
       pub piece : List ℕ
       pub rest : List ℕ
@@ -100,7 +110,7 @@ module _ {M : Type 0} (f : Format M) (s : Settings) where
       pub reaches : length (lines_of rs) + length piece ≡ s.limit
       pub more : 0 < length rest
 
-    -- Why a run stops behind records, before what is left of the input. The last three are no fault of the input.
+    -- Why a run stops after records, before what is left of the input. The last three are no fault of the input.
     abbrev pub Stops : List Record → List ℕ → RunFault → Type 0
     Stops rs left (run.BadRecord at) = (at ≡ length (lines_of rs)) × (BeginsBad rs left ⊎ IsUnfinished rs left)
     Stops rs left (run.Closed at) = (at ≡ length (lines_of rs)) × BeginsRefused rs left AfterClose
@@ -111,7 +121,7 @@ module _ {M : Type 0} (f : Format M) (s : Settings) where
     Stops rs left run.WriteFault = ⊥
     Stops rs left run.NoMemory = ⊥
 
-    -- The cause of an input, behind the records that are taken before it.
+    -- The cause of an input, after the records that are taken before it.
     pub record HasCause (input : List ℕ) (rs : List Record) (fault : RunFault) : Type 0 where
       pub left : List ℕ
       pub spelled : input ≡ lines_of rs ++ left
@@ -123,3 +133,7 @@ module _ {M : Type 0} (f : Format M) (s : Settings) where
       pub spelled : input ≡ lines_of rs
       pub taken : AreTaken [] rs
       pub within : length input ≤ s.limit
+
+    -- An input is valid, or has a cause.
+    abbrev pub HasOutcome : List ℕ → Type 0
+    HasOutcome input = (rs : List Record) × (IsValid input rs ⊎ ((fault : RunFault) × HasCause input rs fault))

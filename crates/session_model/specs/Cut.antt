@@ -21,25 +21,28 @@ begins bytes = nat_le 16 (length bytes) && nat_le 16 (length_at bytes) && nat_le
 abbrev pub stride : ℕ → ℕ
 stride n = n
 
--- What is behind the frame at the front.
-abbrev pub behind : List ℕ → List ℕ
-behind bytes = drop (stride (length_at bytes)) bytes
+-- What follows the frame at the front.
+abbrev pub after_front : List ℕ → List ℕ
+after_front bytes = drop (stride (length_at bytes)) bytes
 
--- A fold over the frames at the front, each given with all that follows it, down to the rest.
-abbrev pub over : {X : Type 0} → (List ℕ → X → X) → (List ℕ → X) → ℕ → List ℕ → X
-over frame rest zero bytes = rest bytes
-over frame rest (suc n) bytes = if begins bytes then frame bytes (over frame rest n (behind bytes)) else rest bytes
+-- A fold over at most so many frames at the front, each given with all that follows it, down to the rest.
+abbrev pub fold_frames_below : {X : Type 0} → (List ℕ → X → X) → (List ℕ → X) → ℕ → List ℕ → X
+fold_frames_below frame rest zero bytes = rest bytes
+fold_frames_below frame rest (suc n) bytes =
+    if begins bytes then frame bytes (fold_frames_below frame rest n (after_front bytes)) else rest bytes
 
-abbrev pub over_frames : {X : Type 0} → (List ℕ → X → X) → (List ℕ → X) → List ℕ → X
-over_frames frame rest bytes = over frame rest (length bytes) bytes
+-- The fold over all frames: there are no more of them than bytes.
+abbrev pub fold_frames : {X : Type 0} → (List ℕ → X → X) → (List ℕ → X) → List ℕ → X
+fold_frames frame rest bytes = fold_frames_below frame rest (length bytes) bytes
 
 -- The frame at the front of bytes that begin one.
 abbrev pub front_of : List ℕ → List ℕ
 front_of bytes = take (length_at bytes) bytes
 
--- The frames of the cut, and its rest.
+-- The frames of the cut.
 abbrev pub frames_of : List ℕ → List (List ℕ)
-frames_of bytes = over_frames (λ b frames. front_of b ∷ frames) (λ b. []) bytes
+frames_of bytes = fold_frames (λ b frames. front_of b ∷ frames) (λ b. []) bytes
 
+-- The rest of the cut.
 abbrev pub rest_of : List ℕ → List ℕ
-rest_of bytes = over_frames (λ b rest. rest) (λ b. b) bytes
+rest_of bytes = fold_frames (λ b rest. rest) (λ b. b) bytes

@@ -37,6 +37,7 @@ pub data Aside : Type 0 where
   -- an address is looked up
   LookedUp : ℕ → List ℕ → Aside
 
+-- What a record brings, one after another.
 pub data Event (M : Type 0) : Type 0 where
   -- a batch leaves
   Sent : SocketAddr → List Asked → Event M
@@ -58,13 +59,18 @@ pub record Arrival (M : Type 0) : Type 0 where
   pub message : NetlinkMessage M
   pub source : SocketAddr
 
+-- The header of the message that an overrun arrives as.
+abbrev pub overrun_header : NetlinkHeader
+overrun_header = record { length = 16; message_type = 4; flags = 0; sequence_number = 0; port_number = 0 }
+
 -- An overrun arrives as a message of its own, from port 0.
 abbrev pub overrun_arrival : {M : Type 0} → Arrival M
 overrun_arrival = record {
-  message = record { header = record { length = 16; message_type = 4; flags = 0; sequence_number = 0; port_number = 0 }; payload = Overrun [] };
+  message = record { header = overrun_header; payload = Overrun [] };
   source = record { port = 0; groups = 0 };
 }
 
+-- What arrives by an event: one message, or none.
 abbrev pub arrival_of : {M : Type 0} → Event M → List (Arrival M)
 arrival_of (Came m source) = record { message = m; source = source } ∷ []
 arrival_of Overran = overrun_arrival ∷ []
@@ -98,14 +104,21 @@ module _ {M : Type 0} (f : Format M) where
 
   -- A datagram is one event for each frame of its cut, and one for the rest.
   abbrev pub datagram_events : SocketAddr → List ℕ → List (Event M)
-  datagram_events source bytes = map (λ frame. brought source frame (frame_at f.reads frame)) (frames_of bytes) ++ leftover source (rest_of bytes)
+  datagram_events source bytes =
+      map (λ frame. brought source frame (frame_at f.reads frame)) (frames_of bytes) ++ leftover source (rest_of bytes)
 
   -- A message as a request sends it, with the length and the type of its payload.
   abbrev pub asked_message : Mark → Result (NetlinkMessage M) DecodeError → List Asked
   asked_message mark (Ok m) =
-      record { header = (finalized f.kind f.text m).header; payload = payload_text f.text m.payload; awaits = is_awaited_by mark m.header; dumps = None } ∷ []
+      record {
+        header = (finalized f.kind f.text m).header;
+        payload = payload_text f.text m.payload;
+        awaits = is_awaited_by mark m.header;
+        dumps = None;
+      } ∷ []
   asked_message mark (Err e) = []
 
+  -- The frames of a batch that can be read, as a request sends them.
   abbrev pub asked : List BatchFrame → List Asked
   asked frames = flat_map (λ (frame : BatchFrame). asked_message frame.mark (frame_at f.reads frame.bytes)) frames
 

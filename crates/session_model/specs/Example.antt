@@ -46,10 +46,14 @@ report rs = report_of raw_format usual rs
 abbrev lined : List ℕ → List ℕ
 lined words = words ++ 10 ∷ []
 
+-- What is written of a first batch that asks for all routes.
+abbrev sent_dump : List ℕ
+sent_dump = codes "sent 0 0 1c0000001a0001030100000000000000000000000000000000000000"
+
 abbrev asked_and_ended : List Record
 asked_and_ended = Batch kernel (expected (dump 0) ∷ []) ∷ Recv kernel (done 1) ∷ []
 
-one_reply_ends_it : text asked_and_ended ≡ lined (codes "sent 0 0 1c0000001a0001030100000000000000000000000000000000000000") ++ lined (codes "closed 1")
+one_reply_ends_it : text asked_and_ended ≡ lined sent_dump ++ lined (codes "closed 1")
 unfolding digits le16 le32 le_i32 u16_at u32_at i32_at
 one_reply_ends_it = refl
 
@@ -59,24 +63,25 @@ its_report = refl
 
 -- An empty batch sends nothing, and like one that awaits nothing it closes in its own record.
 nothing_awaited : text (Batch kernel [] ∷ Batch kernel (not_expected (dump 0) ∷ []) ∷ [])
-    ≡ lined (codes "closed 1") ++ lined (codes "sent 0 0 1c0000001a0001030100000000000000000000000000000000000000") ++ lined (codes "closed 2")
+    ≡ lined (codes "closed 1") ++ lined sent_dump ++ lined (codes "closed 2")
 unfolding digits le16 le32 le_i32 u16_at u32_at i32_at
 nothing_awaited = refl
 
 -- The same end twice: the second is unsolicited.
 ended_twice : text (Batch kernel (by_flags (dump 0) ∷ []) ∷ Recv kernel (done 1 ++ done 1) ∷ [])
-    ≡ lined (codes "sent 0 0 1c0000001a0001030100000000000000000000000000000000000000") ++ lined (codes "unsol 2 0 0 3 2 1 0 00000000") ++ lined (codes "closed 1")
+    ≡ lined sent_dump ++ lined (codes "unsol 2 0 0 3 2 1 0 00000000") ++ lined (codes "closed 1")
 unfolding digits le16 le32 le_i32 u16_at u32_at i32_at
 ended_twice = refl
 
 -- Of two awaited frames one is still awaited.
-one_of_two_open : report (Batch kernel (expected (dump 0) ∷ expected (dump 0) ∷ []) ∷ Recv kernel (done 1) ∷ []) ≡ record { lines = 2; messages = 1; dropped = 0; still_open = 1; in_step = false }
+one_of_two_open : report (Batch kernel (expected (dump 0) ∷ expected (dump 0) ∷ []) ∷ Recv kernel (done 1) ∷ [])
+    ≡ record { lines = 2; messages = 1; dropped = 0; still_open = 1; in_step = false }
 unfolding le16 le32 le_i32 u16_at u32_at i32_at
 one_of_two_open = refl
 
 -- An unreadable frame ends nothing, and a close ends all.
 unread_then_closed : text (Batch kernel (by_flags (dump 0) ∷ []) ∷ Recv kernel (short_done 1) ∷ Close ∷ [])
-    ≡ lined (codes "sent 0 0 1c0000001a0001030100000000000000000000000000000000000000") ++ lined (codes "closed 1")
+    ≡ lined sent_dump ++ lined (codes "closed 1")
 unfolding digits le16 le32 le_i32 u16_at u32_at i32_at
 unread_then_closed = refl
 

@@ -2,6 +2,7 @@
 use Rattle.std.specs.Prelude.{◌==◌, ◌||◌, ℕ, Bool, not, bit_and}
 use Rattle.nl_core.specs.declared.header.NetlinkHeader.{NetlinkHeader}
 
+-- Whether a flag is set in a header.
 abbrev pub has : ℕ → NetlinkHeader → Bool
 has flag h = not (bit_and h.flags flag == 0)
 

@@ -1,4 +1,5 @@
 pub mod Usual
+pub mod Inner
 pub mod Cut
 pub mod Flags
 pub mod Events

@@ -1,4 +1,4 @@
--- What a report tells of records.
+-- What a run reports of its records.
 use Rattle.std.specs.Prelude.{◌+◌, ℕ, false, List, [], ◌∷◌, length}
 use Rattle.nl_core.specs.Frames.{Format}
 use Rattle.session_model.specs.declared.outcome.Report.{Report}
@@ -7,7 +7,7 @@ use Rattle.session_model.specs.declared.transcript.Record.{Record}
 use Rattle.session_model.specs.Events.{Event, Sent, Came, Unread, Leftover, Overran, Shut, Other, arrivals, events_of}
 use Rattle.session_model.specs.Streams.{open_streams}
 
--- How many unreadable frames and rests an event drops, and how many events drop.
+-- How many unreadable frames and rests an event drops.
 abbrev pub drops : {M : Type 0} → Event M → ℕ
 drops (Unread kind number source) = 1
 drops (Leftover count source) = 1
@@ -17,6 +17,7 @@ drops Overran = 0
 drops Shut = 0
 drops (Other aside) = 0
 
+-- How many of them events drop.
 abbrev pub dropped_count : {M : Type 0} → List (Event M) → ℕ
 dropped_count [] = 0
 dropped_count (e ∷ es) = drops e + dropped_count es

@@ -5,7 +5,7 @@ use Rattle.session_model.specs.declared.awaited.Awaited.{Awaited}
 use Rattle.session_model.specs.Events.{Event, Sent, Came, Unread, Leftover, Overran, Shut, Other}
 use Rattle.session_model.specs.Awaited.{awaited, batch_count}
 
--- Whether the link has closed.
+-- Whether an event closes the link.
 abbrev pub shuts : {M : Type 0} → Event M → Bool
 shuts Shut = true
 shuts (Sent to frames) = false
@@ -15,6 +15,7 @@ shuts (Leftover count source) = false
 shuts Overran = false
 shuts (Other aside) = false
 
+-- Whether the link has closed.
 abbrev pub is_shut : {M : Type 0} → List (Event M) → Bool
 is_shut es = list_any shuts es
 
@@ -37,4 +38,6 @@ has_closed start es stream = nat_lt stream (batch_count 1 es) && not (is_open st
 
 -- The streams that close by events: closed by then, and not so before.
 abbrev pub closing : {M : Type 0} → ℕ → List (Event M) → List (Event M) → List ℕ
-closing start before es = filter (λ stream. has_closed start (before ++ es) stream && not (has_closed start before stream)) (up_to (batch_count 0 (before ++ es)))
+closing start before es =
+    filter (λ stream. has_closed start (before ++ es) stream && not (has_closed start before stream))
+    (up_to (batch_count 0 (before ++ es)))

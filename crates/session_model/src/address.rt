@@ -1,4 +1,4 @@
-// Addresses of peers.
+//! Addresses of peers.
 ghost use Rattle.std.specs.Prelude.{◌≡◌};
 
 /// The address of a netlink peer, as `sockaddr_nl` of the kernel header linux/netlink.h: a port and a mask of multicast

@@ -1,12 +1,12 @@
-// What a run tells, and why it ends early.
+//! What a run reports, and why it ends early.
 ghost use Rattle.std.specs.Prelude.{◌≡◌};
-ghost use Rattle.session_model.specs.declared.outcome.RunFault.TheVariants.{NoMemory as WantOfMemory};
+ghost use Rattle.session_model.specs.declared.outcome.RunFault.TheVariants.{NoMemory as OutOfMemory};
 
 use nl_core::NoMemory;
 use std::alloc::{AllocError, AllocFailed};
 use thiserror::Error;
 
-/// What a run tells of its records: how many there were, how many messages arrived (overruns included), how many
+/// What a run reports of its records: how many there were, how many messages arrived (overruns included), how many
 /// unreadable frames and rests were dropped, how many streams are still open, and whether the mirror is in step.
 #[derive(Clone, Copy, Debug, PartialEq, Eq)]
 pub struct Report {
@@ -39,7 +39,7 @@ pub enum RunFault {
 }
 
 impl From<NoMemory> for RunFault {
-    ghost from_gives = { λ _ e. e ≡ WantOfMemory };
+    ghost from_gives = { λ _ e. e ≡ OutOfMemory };
 
     fn from(_: NoMemory) -> Self {
         RunFault::NoMemory
@@ -47,7 +47,7 @@ impl From<NoMemory> for RunFault {
 }
 
 impl From<AllocError> for RunFault {
-    ghost from_gives = { λ _ e. e ≡ WantOfMemory };
+    ghost from_gives = { λ _ e. e ≡ OutOfMemory };
 
     fn from(_: AllocError) -> Self {
         RunFault::NoMemory
@@ -55,7 +55,7 @@ impl From<AllocError> for RunFault {
 }
 
 impl<T: Drop> From<AllocFailed<T>> for RunFault {
-    ghost from_gives = { λ _ e. e ≡ WantOfMemory };
+    ghost from_gives = { λ _ e. e ≡ OutOfMemory };
 
     fn from(_: AllocFailed<T>) -> Self {
         RunFault::NoMemory

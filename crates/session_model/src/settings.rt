@@ -1,4 +1,4 @@
-// What a run is told.
+//! What a run is asked for.
 ghost use Rattle.std.specs.Prelude.{◌≡◌};
 ghost use Rattle.session_model.specs.Usual.{usual};
 

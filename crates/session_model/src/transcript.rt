@@ -1,4 +1,4 @@
-// The records of a transcript.
+//! The records of a transcript.
 use crate::address::SocketAddr;
 use nl_core::{Items, Octets};
 

@@ -7,22 +7,22 @@ use Rattle.std.proofs.lemmas.Fmt.{digits_decimal, digits_value-decimal, decimal_
 use Rattle.std.proofs.lemmas.Str.Parse.{digit_from_value, IsNumeralModel, FoldsDigits, numerals_by_fold, tells_digits}
 use Rattle.transcript_lines.specs.Number.{BeginsNoNumber}
 
--- the number of digits behind a number
-abbrev number_behind : ℕ → List ℕ → ℕ
-number_behind n [] = n
-number_behind n (b ∷ bs) = number_behind (n * 10 + (b - 48)) bs
+-- The number of digits after a number.
+abbrev pub number_after : ℕ → List ℕ → ℕ
+number_after n [] = n
+number_after n (b ∷ bs) = number_after (n * 10 + (b - 48)) bs
 
-grows : (n : ℕ) (bs : List ℕ) → n ≤ number_behind n bs
+grows : (n : ℕ) (bs : List ℕ) → n ≤ number_after n bs
 grows n [] = omega arith
 grows n (b ∷ bs) = let h = grows (n * 10 + (b - 48)) bs in omega (arith, h)
 
-folds : FoldsDigits number_behind
+folds : FoldsDigits number_after
 folds = record { empty = λ n. refl; more = λ n c cs k. refl }
 
-own : IsNumeralModel (AllDigits 10) (number_behind 0)
-own = numerals_by_fold (AllDigits 10) tells_digits number_behind folds
+own : IsNumeralModel (AllDigits 10) (number_after 0)
+own = numerals_by_fold (AllDigits 10) tells_digits number_after folds
 
--- a decimal is of digits
+-- A decimal is of digits.
 pub decimal_digits : (n : ℕ) → n < 2 ^ 32 → AllDigits 10 (decimal n)
 decimal_digits n h = digits_decimal own n (omega (arith, h))
 
@@ -30,25 +30,29 @@ digit_inside : (w : List ℕ) (b : ℕ) (more : List ℕ) → AllDigits 10 ((w +
 digit_inside [] b more h = digit_from_value b h.0
 digit_inside (x ∷ w) b more h = digit_inside w b more h.1
 
+-- A byte that is no digit stands in no number.
 pub no_digit : (w : List ℕ) (b : ℕ) → (IsInRange 48 57 b → ⊥) → BeginsNoNumber (w ++ b ∷ [])
 no_digit w b not more n h e = not (digit_inside w b more (subst (AllDigits 10) (sym e) (decimal_digits n h)))
 
-behind_more : (k : ℕ) (a b : List ℕ) → number_behind k (a ++ b) ≡ number_behind (number_behind k a) b
-behind_more k [] b = refl
-behind_more k (x ∷ a) b = behind_more (k * 10 + (x - 48)) a b
+after_more : (k : ℕ) (a b : List ℕ) → number_after k (a ++ b) ≡ number_after (number_after k a) b
+after_more k [] b = refl
+after_more k (x ∷ a) b = after_more (k * 10 + (x - 48)) a b
 
-value_of : (v : ℕ) → v < 2 ^ 32 → number_behind 0 (decimal v) ≡ v
+-- A decimal below 2 ^ 32 is that of its number.
+pub value_of : (v : ℕ) → v < 2 ^ 32 → number_after 0 (decimal v) ≡ v
 value_of v h = digits_value-decimal own v (omega (arith, h))
 
+-- A digit too many makes a number too large.
 pub too_large : (w : List ℕ) (v b : ℕ) → v < 2 ^ 32 → w ≡ decimal v → 2 ^ 32 ≤ v * 10 + (b - 48) → BeginsNoNumber (w ++ b ∷ [])
 too_large w v b h is large more n k e =
-    let whole : number_behind 0 ((w ++ b ∷ []) ++ more) ≡ n = ap (number_behind 0) e ∙ value_of n k in
-    let first : number_behind 0 (w ++ b ∷ []) ≡ v * 10 + (b - 48) =
-    behind_more 0 w (b ∷ []) ∙ ap (λ m. m * 10 + (b - 48)) (ap (number_behind 0) is ∙ value_of v h) in
-    let all : number_behind (v * 10 + (b - 48)) more ≡ n = ap (λ m. number_behind m more) (sym first) ∙ sym (behind_more 0 (w ++ b ∷ []) more) ∙ whole in
+    let whole : number_after 0 ((w ++ b ∷ []) ++ more) ≡ n = ap (number_after 0) e ∙ value_of n k in
+    let first : number_after 0 (w ++ b ∷ []) ≡ v * 10 + (b - 48) =
+    after_more 0 w (b ∷ []) ∙ ap (λ m. m * 10 + (b - 48)) (ap (number_after 0) is ∙ value_of v h) in
+    let all : number_after (v * 10 + (b - 48)) more ≡ n = ap (λ m. number_after m more) (sym first) ∙ sym (after_more 0 (w ++ b ∷ []) more) ∙ whole in
     let up = grows (v * 10 + (b - 48)) more in
     omega (arith, up, all, large, k)
 
+-- Nothing follows a leading zero.
 pub leading : (w : List ℕ) (b : ℕ) → w ≡ decimal 0 → BeginsNoNumber (w ++ b ∷ [])
 leading w b is more n h e =
     let zero_is : decimal 0 ≡ 48 ∷ [] = decimal_digit 0 (omega arith) in
@@ -62,27 +66,33 @@ leading w b is more n h e =
         let g : get_or (decimal (suc n)) 0 0 ≡ 48 = ap (λ d. get_or d 0 0) (sym e) in
         omega (arith, f, g)
 
+-- One digit is a number.
 pub one_digit : (w : List ℕ) (b d : ℕ) → w ≡ [] → IsInRange 48 57 b → d ≡ b - 48 → w ++ b ∷ [] ≡ decimal d
 one_digit w b d is h k =
     let low : d < 10 = omega (arith, k, h.0, h.1) in
     let same : b ≡ 48 + d = omega (arith, k, h.0, h.1) in
     ap (λ z. z ++ b ∷ []) is ∙ ap (λ z. z ∷ []) same ∙ sym (decimal_digit d low)
 
-pub more_digits : (w : List ℕ) (v b n : ℕ) → 0 < v → v < 2 ^ 32 → w ≡ decimal v → IsInRange 48 57 b → n ≡ v * 10 + (b - 48) → n < 2 ^ 32 → w ++ b ∷ [] ≡ decimal n
+-- A digit after a number is ten times the number and the digit.
+pub more_digits : (w : List ℕ) (v b n : ℕ) → 0 < v → v < 2 ^ 32 → w ≡ decimal v → IsInRange 48 57 b → n ≡ v * 10 + (b - 48) → n < 2 ^ 32
+    → w ++ b ∷ [] ≡ decimal n
 more_digits w v b n some h is digit now low =
     let step = decimal_step n (omega (arith, some, now)) (omega (arith, low)) in
     let front : n / 10 ≡ v = omega (arith, now, digit.0, digit.1) in
     let back : 48 + n % 10 ≡ b = omega (arith, now, digit.0, digit.1) in
     ap (λ z. z ++ b ∷ []) (is ∙ ap decimal (sym front)) ∙ ap (λ z. decimal (n / 10) ++ z ∷ []) (sym back) ∙ sym step
 
+-- What begins no number begins none with more bytes.
 pub stays : (w : List ℕ) (b : ℕ) → BeginsNoNumber w → BeginsNoNumber (w ++ b ∷ [])
 stays w b bad more n h e = bad (b ∷ more) n h (sym (append_assoc w (b ∷ []) more) ∙ e)
 
+-- No number is spelled by no digits.
 pub empty : (w : List ℕ) → w ≡ [] → (n : ℕ) → n < 2 ^ 32 → w ≢ decimal n
 empty w is n h e =
     let some = decimal_nonempty n (omega (arith, h)) in
     let none : length (decimal n) ≡ 0 = ap length (sym e ∙ is) in
     omega (arith, some, none)
 
+-- What begins no number is none.
 pub none : (w : List ℕ) → BeginsNoNumber w → (n : ℕ) → n < 2 ^ 32 → w ≢ decimal n
 none w bad n h e = bad [] n h (append-nil w ∙ e)

@@ -5,13 +5,14 @@ use Rattle.std.proofs.lemmas.Bool.Decides.{nat_tests}
 use Rattle.session_model.specs.Lines.{hex_digit, hex_byte, hex_word}
 use Rattle.session_model.specs.Transcript.{AreBytes}
 use Rattle.transcript_lines.specs.Bytes.{BeginsNoBytes, ReadsAt}
-use Rattle.transcript_lines.specs.declared.bytes.Place.{Place}
-use Rattle.transcript_lines.specs.declared.bytes.Place.TheVariants.{Begin, Dash, Whole, Half, Bad}
+use Rattle.transcript_lines.specs.declared.bytes.Fed.{Fed}
+use Rattle.transcript_lines.specs.declared.bytes.Fed.TheVariants.{Begin, Dash, Whole, Half, Bad}
 
--- each is a digit
+-- Each is a digit.
 abbrev pub AreDigits : List ℕ → Type 0
 AreDigits w = AllByRecursion (λ b. (v : ℕ) × (v < 16) × (b ≡ hex_digit v)) w
 
+-- The spelling of bytes is digits.
 pub digits_in : (bytes : List ℕ) → AreBytes bytes → AreDigits (flat_map hex_byte bytes)
 digits_in [] h = tt
 digits_in (b ∷ bytes) h = ((b / 16, omega (arith, h.0), refl), ((b % 16, omega arith, refl), digits_in bytes h.1))
@@ -24,14 +25,16 @@ shape : (v : ℕ) (t : Bool) → nat_lt v 10 ≡ t → 45 < cond t (48 + v) (87 
 shape v true e = omega arith
 shape v false e = omega arith
 
+-- A digit is above the dash.
 pub above_dash : (v : ℕ) → 45 < hex_digit v
 above_dash v = shape v (nat_lt v 10) refl
 
--- a word of one byte or more
+-- A word of one byte or more.
 whole_word : (bytes : List ℕ) → 0 < length bytes → hex_word bytes ≡ flat_map hex_byte bytes
 whole_word [] h = absurd (omega (arith, h))
 whole_word (b ∷ bytes) h = refl
 
+-- A byte that is neither a digit nor a dash stands in no spelling of bytes.
 pub no_digit : (w : List ℕ) (b : ℕ) → ((v : ℕ) → v < 16 → b ≢ hex_digit v) → b ≢ 45 → BeginsNoBytes (w ++ b ∷ [])
 no_digit w b not dash more bytes h e = by bytes h e
   where
@@ -44,7 +47,7 @@ no_digit w b not dash more bytes h e = by bytes h e
         first (x ∷ y ∷ w) e = cc
     by (c ∷ bytes) h e = let d = digit_inside w b more (subst AreDigits (sym e) (digits_in (c ∷ bytes) h)) in not d.0 d.1 d.2
 
--- a dash behind anything
+-- A dash after anything.
 pub late_dash : (w : List ℕ) → 0 < length w → BeginsNoBytes (w ++ 45 ∷ [])
 late_dash w some more [] h e = by w some e
   where
@@ -57,9 +60,9 @@ late_dash w some more (c ∷ bytes) h e =
     let up = above_dash d.0 in
     omega (arith, up, d.2)
 
--- anything behind a dash
-pub behind_dash : (w : List ℕ) (b : ℕ) → w ≡ 45 ∷ [] → BeginsNoBytes (w ++ b ∷ [])
-behind_dash w b is more bytes h e = by bytes h (ap (λ z. (z ++ b ∷ []) ++ more) (sym is) ∙ e)
+-- Anything after a dash.
+pub after_dash : (w : List ℕ) (b : ℕ) → w ≡ 45 ∷ [] → BeginsNoBytes (w ++ b ∷ [])
+after_dash w b is more bytes h e = by bytes h (ap (λ z. (z ++ b ∷ []) ++ more) (sym is) ∙ e)
   where
     by : (bytes : List ℕ) → AreBytes bytes → 45 ∷ b ∷ more ≢ hex_word bytes
     by [] h e = cc
@@ -68,21 +71,25 @@ behind_dash w b is more bytes h e = by bytes h (ap (λ z. (z ++ b ∷ []) ++ mor
         let same : 45 ≡ hex_digit (c / 16) = cc in
         omega (arith, up, same)
 
+-- What begins no spelling of bytes begins none with more bytes.
 pub stays : (w : List ℕ) (b : ℕ) → BeginsNoBytes w → BeginsNoBytes (w ++ b ∷ [])
 stays w b bad more bytes h e = bad (b ∷ more) bytes h (sym (append_assoc w (b ∷ []) more) ∙ e)
 
+-- What begins no spelling of bytes is none.
 pub none : (w : List ℕ) → BeginsNoBytes w → (bytes : List ℕ) → AreBytes bytes → w ≢ hex_word bytes
 none w bad bytes h e = bad [] bytes h (append-nil w ∙ e)
 
+-- No bytes are spelled by nothing.
 pub empty : (w : List ℕ) → w ≡ [] → (bytes : List ℕ) → AreBytes bytes → w ≢ hex_word bytes
 empty w is [] h e = let l : 1 ≡ 0 = ap length (sym e ∙ is) in omega (arith, l)
 empty w is (c ∷ bytes) h e = let t : [] ≡ flat_map hex_byte (c ∷ bytes) = sym is ∙ e in cc
 
+-- Each byte is two digits.
 pub twice : (bytes : List ℕ) → length (flat_map hex_byte bytes) ≡ length bytes * 2
 twice [] = refl
 twice (b ∷ bytes) = let t = twice bytes in omega (arith, t)
 
--- an odd count of digits
+-- An odd count of digits.
 pub odd : (w bytes : List ℕ) (v : ℕ) → w ≡ flat_map hex_byte bytes ++ hex_digit v ∷ [] → (own : List ℕ) → AreBytes own → w ≢ hex_word own
 odd w bytes v is [] h e = by bytes (sym is ∙ e)
   where
@@ -103,7 +110,7 @@ are_more : (bytes : List ℕ) (b : ℕ) → AreBytes bytes → b < 256 → AreBy
 are_more [] b h k = (k, tt)
 are_more (c ∷ bytes) b h k = (h.0, are_more bytes b h.1 k)
 
--- the second digit of a byte
+-- The second digit of a byte.
 pub second : (w bytes now : List ℕ) (high v : ℕ) → w ≡ flat_map hex_byte bytes ++ hex_digit high ∷ [] → high < 16 → v < 16 → AreBytes bytes
     → now ≡ bytes ++ (high * 16 + v) ∷ [] → (w ++ hex_digit v ∷ [] ≡ flat_map hex_byte now) × (0 < length now) × AreBytes now
 second w bytes now high v is small low each got =
@@ -122,7 +129,8 @@ second w bytes now high v is small low each got =
 
 -- A reader at any place.
 
-pub fits_half : (w bytes : List ℕ) (place : Place) → ReadsAt w bytes place → length bytes * 2 ≤ length w
+-- A reader holds at most half as many bytes as it was fed.
+pub fits_half : (w bytes : List ℕ) (last : Fed) → ReadsAt w bytes last → length bytes * 2 ≤ length w
 fits_half w bytes Begin r = let l : length bytes ≡ 0 = ap length r.1 in omega (arith, l)
 fits_half w bytes Dash r = let l : length bytes ≡ 0 = ap length r.1 in omega (arith, l)
 fits_half w bytes Whole r = let l : length w ≡ length (flat_map hex_byte bytes) = ap length r.0 in omega (arith, l, twice bytes)
@@ -131,19 +139,22 @@ fits_half w bytes (Half high) r =
     omega (arith, l, twice bytes, length-append (flat_map hex_byte bytes) (hex_digit high ∷ []))
 fits_half w bytes Bad r = r.1
 
-pub fits_more : (w bytes : List ℕ) (place : Place) (b : ℕ) → ReadsAt w bytes place → length bytes * 2 ≤ length (w ++ b ∷ [])
+-- A reader holds at most half as many bytes as it was fed with one more.
+pub fits_more : (w bytes : List ℕ) (last : Fed) (b : ℕ) → ReadsAt w bytes last → length bytes * 2 ≤ length (w ++ b ∷ [])
 fits_more w bytes place b r = omega (arith, fits_half w bytes place r, length-append w (b ∷ []))
 
-pub no_end : (w bytes : List ℕ) (place : Place) → ReadsAt w bytes place → place ≢ Dash → place ≢ Whole → (own : List ℕ) → AreBytes own → w ≢ hex_word own
+-- A reader that was last fed neither a dash nor a second digit was fed no spelling.
+pub no_end : (w bytes : List ℕ) (last : Fed) → ReadsAt w bytes last → last ≢ Dash → last ≢ Whole → (own : List ℕ) → AreBytes own → w ≢ hex_word own
 no_end w bytes Begin r d h = empty w r.0
 no_end w bytes Dash r d h = absurd (d refl)
 no_end w bytes Whole r d h = absurd (h refl)
 no_end w bytes (Half high) r d h = odd w bytes high r.0
 no_end w bytes Bad r d h = none w r.0
 
-pub dashed : (w bytes : List ℕ) (place : Place) (b : ℕ) → b ≡ 45 → ReadsAt w bytes place → place ≢ Begin → BeginsNoBytes (w ++ b ∷ [])
+-- A dash after anything begins no spelling.
+pub dashed : (w bytes : List ℕ) (last : Fed) (b : ℕ) → b ≡ 45 → ReadsAt w bytes last → last ≢ Begin → BeginsNoBytes (w ++ b ∷ [])
 dashed w bytes Begin b is r h = absurd (h refl)
-dashed w bytes Dash b is r h = behind_dash w b r.0
+dashed w bytes Dash b is r h = after_dash w b r.0
 dashed w bytes Whole b is r h =
     let l : length w ≡ length (flat_map hex_byte bytes) = ap length r.0 in
     subst (λ z. BeginsNoBytes (w ++ z ∷ [])) (sym is) (late_dash w (omega (arith, l, twice bytes, r.1)))
@@ -152,8 +163,9 @@ dashed w bytes (Half high) b is r h =
     subst (λ z. BeginsNoBytes (w ++ z ∷ [])) (sym is) (late_dash w (omega (arith, l, length-append (flat_map hex_byte bytes) (hex_digit high ∷ []))))
 dashed w bytes Bad b is r h = stays w b r.0
 
--- a dash alone goes on from nothing; no other byte that is no digit goes on from anywhere
-pub no_other : (w bytes : List ℕ) (place : Place) (b : ℕ) → ((v : ℕ) → v < 16 → b ≢ hex_digit v) → (place ≡ Begin → b ≢ 45) → ReadsAt w bytes place → BeginsNoBytes (w ++ b ∷ []) × (length bytes * 2 ≤ length (w ++ b ∷ []))
+-- A dash alone goes on from nothing; no other byte that is no digit goes on from anywhere.
+pub no_other : (w bytes : List ℕ) (last : Fed) (b : ℕ) → ((v : ℕ) → v < 16 → b ≢ hex_digit v) → (last ≡ Begin → b ≢ 45) → ReadsAt w bytes last
+    → BeginsNoBytes (w ++ b ∷ []) × (length bytes * 2 ≤ length (w ++ b ∷ []))
 no_other w bytes place b digit begun r = (by (b == 45) refl, fits_more w bytes place b r)
   where
     by : (t : Bool) → (b == 45) ≡ t → BeginsNoBytes (w ++ b ∷ [])

@@ -1,20 +1,21 @@
 -- Records that have one line are one record.
-use Rattle.std.proofs.Common.{◌≡◌, ◌≢◌, ◌+◌, ◌/◌, ◌%◌, ◌<◌, ◌^◌, ℕ, nat_lt, cond, Bool, true, false, List, [], ◌∷◌, map, flat_map, refl, sym, ◌∙◌, ap, arith}
+use Rattle.std.proofs.Common.{◌≡◌, ◌≢◌, ◌+◌, ◌/◌, ◌%◌, ◌<◌, ◌^◌, ℕ, nat_lt, cond, Bool, true, false, List, [], ◌∷◌, ◌++◌, map, flat_map, Result, refl, sym, ◌∙◌, ap, subst, arith}
 use Rattle.std.specs.List.{join_with_byte}
 use Rattle.std.specs.Fmt.{decimal}
 use Rattle.std.proofs.lemmas.Bool.Decides.{nat_tests}
 use Rattle.std.proofs.lemmas.Fmt.{decimal_injective}
+use Rattle.nl_core.specs.declared.error.DecodeError.{DecodeError}
+use Rattle.session_model.specs.Causes.{IsNoRecord}
 use Rattle.session_model.specs.Lines.{hex_word, hex_byte, hex_digit}
-use Rattle.session_model.specs.Transcript.{record_words, record_line, frame_word, mark_letter}
+use Rattle.session_model.specs.Transcript.{IsSpelled, IsRecord, HasWholeFrames, record_words, record_line, frame_word, mark_letter}
 use Rattle.session_model.specs.declared.address.SocketAddr.{SocketAddr}
 use Rattle.session_model.specs.declared.transcript.BatchFrame.{BatchFrame}
 use Rattle.session_model.specs.declared.transcript.Mark.{Mark}
 use Rattle.session_model.specs.declared.transcript.Mark.TheVariants.{ByFlags, Expected, NotExpected}
 use Rattle.session_model.specs.declared.transcript.Record.{Record}
 use Rattle.session_model.specs.declared.transcript.Record.TheVariants.{Recv, Overrun, Close, Batch}
-use Rattle.transcript_lines.specs.Line.{IsSpelled}
 use Rattle.transcript_lines.proofs.Lines.{record_joined, words_of_line}
-use Rattle.transcript_lines.proofs.Records.{initial}
+use Rattle.transcript_lines.proofs.RecordWords.{initial}
 
 number_one : (m n : ℕ) → m < 2 ^ 32 → n < 2 ^ 32 → decimal m ≡ decimal n → m ≡ n
 number_one m n h k e = decimal_injective m n (omega (arith, h)) (omega (arith, k)) e
@@ -51,7 +52,8 @@ bytes_one (x ∷ a) [] e = absurd (no_dash x a (sym e))
 bytes_one (x ∷ a) (y ∷ b) e = bytes_flat (x ∷ a) (y ∷ b) e
 
 address_one : (a b : SocketAddr) → a.port ≡ b.port → a.groups ≡ b.groups → a ≡ b
-address_one a b e f = ap (λ p. let r : SocketAddr = record { port = p; groups = a.groups } in r) e ∙ ap (λ g. let r : SocketAddr = record { port = b.port; groups = g } in r) f
+address_one a b e f = ap (λ p. let r : SocketAddr = record { port = p; groups = a.groups } in r) e
+    ∙ ap (λ g. let r : SocketAddr = record { port = b.port; groups = g } in r) f
 
 mark_one : (m n : Mark) → mark_letter m ≡ mark_letter n → m ≡ n
 mark_one ByFlags ByFlags e = refl
@@ -72,7 +74,8 @@ frame_one f g e = by f.mark g.mark f.bytes g.bytes e
     by m n a b e =
         let first : mark_letter m ≡ mark_letter n = cc in
         let rest : hex_word a ≡ hex_word b = cc in
-        ap (λ z. let r : BatchFrame = record { mark = z; bytes = a } in r) (mark_one m n first) ∙ ap (λ z. let r : BatchFrame = record { mark = n; bytes = z } in r) (bytes_one a b rest)
+        ap (λ z. let r : BatchFrame = record { mark = z; bytes = a } in r) (mark_one m n first)
+        ∙ ap (λ z. let r : BatchFrame = record { mark = n; bytes = z } in r) (bytes_one a b rest)
 
 frames_one : (fs gs : List BatchFrame) → map frame_word fs ≡ map frame_word gs → fs ≡ gs
 frames_one [] [] e = refl
@@ -86,13 +89,15 @@ frames_one (f ∷ fs) (g ∷ gs) e =
 other : {X : Type 0} (m n : ℕ) → m ≡ n → m ≢ n → X
 other m n e h = absurd (h e)
 
--- records of one list of words are one
+-- Records of one list of words are one.
 by_words : (r s : Record) → IsSpelled r → IsSpelled s → record_words r ≡ record_words s → r ≡ s
 by_words (Recv a x) (Recv b y) h k e =
     let port : decimal a.port ≡ decimal b.port = cc in
     let groups : decimal a.groups ≡ decimal b.groups = cc in
     let bytes : hex_word x ≡ hex_word y = cc in
-    ap (λ z. Recv z x) (address_one a b (number_one a.port b.port h.0.port k.0.port port) (number_one a.groups b.groups h.0.groups k.0.groups groups)) ∙ ap (λ z. Recv b z) (bytes_one x y bytes)
+    let ports = number_one a.port b.port h.0.port k.0.port port in
+    let masks = number_one a.groups b.groups h.0.groups k.0.groups groups in
+    ap (λ z. Recv z x) (address_one a b ports masks) ∙ ap (λ z. Recv b z) (bytes_one x y bytes)
 by_words (Recv a x) Overrun h k e = other 114 111 (ap initial e) (λ n. omega (arith, n))
 by_words (Recv a x) Close h k e = other 114 99 (ap initial e) (λ n. omega (arith, n))
 by_words (Recv a x) (Batch b gs) h k e = other 114 98 (ap initial e) (λ n. omega (arith, n))
@@ -111,7 +116,17 @@ by_words (Batch a fs) (Batch b gs) h k e =
     let port : decimal a.port ≡ decimal b.port = cc in
     let groups : decimal a.groups ≡ decimal b.groups = cc in
     let frames : map frame_word fs ≡ map frame_word gs = cc in
-    ap (λ z. Batch z fs) (address_one a b (number_one a.port b.port h.0.port k.0.port port) (number_one a.groups b.groups h.0.groups k.0.groups groups)) ∙ ap (λ z. Batch b z) (frames_one fs gs frames)
+    let ports = number_one a.port b.port h.0.port k.0.port port in
+    let masks = number_one a.groups b.groups h.0.groups k.0.groups groups in
+    ap (λ z. Batch z fs) (address_one a b ports masks) ∙ ap (λ z. Batch b z) (frames_one fs gs frames)
 
+-- Records of one line are one record.
 pub record_of_line : (r s : Record) → IsSpelled r → IsSpelled s → record_line r ≡ record_line s → r ≡ s
 record_of_line r s h k e = by_words r s h k (sym (record_joined r h) ∙ words_of_line (join_with_byte 32 (record_words r)) s k e)
+
+-- A line that spells what is no record is no record's.
+pub not_whole : {M : Type 0} (reads : ℕ → List ℕ → Result M DecodeError) (line : List ℕ) (entry : Record) → IsSpelled entry
+    → line ++ 10 ∷ [] ≡ record_line entry → (HasWholeFrames reads entry → ⊥) → IsNoRecord (IsRecord reads) line
+not_whole reads line entry spelled is not r built e =
+    let same : r ≡ entry = record_of_line r entry built.0 spelled (sym e ∙ is) in
+    not (subst (HasWholeFrames reads) same built.1)

@@ -3,6 +3,10 @@ mod Decimals
 mod HexDigits
 mod Splits
 pub mod Lines
-mod Records
+mod RecordWords
 pub mod Injective
 pub mod OneOutcome
+mod Decided
+mod Outcomes
+mod Joined
+mod Datagram

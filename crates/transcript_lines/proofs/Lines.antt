@@ -9,19 +9,20 @@ use Rattle.std.specs.Str.Parse.{AllDigits}
 use Rattle.std.proofs.lemmas.Bool.Decides.{nat_tests}
 use Rattle.std.proofs.lemmas.Str.Parse.{digit_from_value}
 use Rattle.session_model.specs.Lines.{hex_word, hex_byte}
-use Rattle.session_model.specs.Transcript.{AreBytes, record_words, record_line, frame_word, mark_letter, has_newline}
+use Rattle.session_model.specs.Transcript.{AreBytes, AreFrames, IsSpelled, record_words, record_line, frame_word, mark_letter, has_newline}
 use Rattle.session_model.specs.declared.transcript.BatchFrame.{BatchFrame}
 use Rattle.session_model.specs.declared.transcript.Mark.{Mark}
 use Rattle.session_model.specs.declared.transcript.Mark.TheVariants.{ByFlags, Expected, NotExpected}
 use Rattle.session_model.specs.declared.transcript.Record.{Record}
 use Rattle.session_model.specs.declared.transcript.Record.TheVariants.{Recv, Overrun, Close, Batch}
 use Rattle.transcript_lines.specs.Words.{words_of}
-use Rattle.transcript_lines.specs.Line.{AreFrames, IsSpelled, IsNoLine, IsRecordOf}
+use Rattle.session_model.specs.Causes.{IsNoRecord}
+use Rattle.transcript_lines.specs.Line.{IsRecordOf}
 use Rattle.transcript_lines.proofs.Decimals.{decimal_digits}
 use Rattle.transcript_lines.proofs.HexDigits.{AreDigits, digits_in, above_dash}
 use Rattle.transcript_lines.proofs.Splits.{IsWord, words_joined, joined_words}
 
--- each byte is above the blank
+-- Each byte is above the space.
 abbrev IsPrinted : List ℕ → Type 0
 IsPrinted word = AllByRecursion (λ b. nat_lt 32 b ≡ true) word
 
@@ -51,15 +52,17 @@ mark_above NotExpected = omega arith
 frame_printed : (f : BatchFrame) → AreBytes f.bytes → IsPrinted (frame_word f)
 frame_printed f h = (above (mark_letter f.mark) (mark_above f.mark), (refl, bytes_printed f.bytes h))
 
-frames_printed : (fs : List BatchFrame) → AreFrames fs → AllByRecursion IsPrinted (map frame_word fs)
+frames_printed : (fs : List BatchFrame) → AreFrames AreBytes fs → AllByRecursion IsPrinted (map frame_word fs)
 frames_printed [] h = tt
 frames_printed (f ∷ fs) h = (frame_printed f h.0, frames_printed fs h.1)
 
 record_printed : (r : Record) → IsSpelled r → AllByRecursion IsPrinted (record_words r)
-record_printed (Recv a bytes) h = ((refl, (refl, (refl, (refl, tt)))), (decimal_printed a.port h.0.port, (decimal_printed a.groups h.0.groups, (bytes_printed bytes h.1, tt))))
+record_printed (Recv a bytes) h =
+    ((refl, (refl, (refl, (refl, tt)))), (decimal_printed a.port h.0.port, (decimal_printed a.groups h.0.groups, (bytes_printed bytes h.1, tt))))
 record_printed Overrun h = ((refl, (refl, (refl, (refl, (refl, (refl, (refl, tt))))))), tt)
 record_printed Close h = ((refl, (refl, (refl, (refl, (refl, tt))))), tt)
-record_printed (Batch a fs) h = ((refl, (refl, (refl, (refl, (refl, tt))))), (decimal_printed a.port h.0.port, (decimal_printed a.groups h.0.groups, frames_printed fs h.1)))
+record_printed (Batch a fs) h =
+    ((refl, (refl, (refl, (refl, (refl, tt))))), (decimal_printed a.port h.0.port, (decimal_printed a.groups h.0.groups, frames_printed fs h.1)))
 
 printed_word : (word : List ℕ) → IsPrinted word → IsWord word
 printed_word [] h = tt
@@ -75,7 +78,7 @@ printed_words (word ∷ words) h = (printed_word word h.0, printed_words words h
 record_is_words : (r : Record) → IsSpelled r → AllByRecursion IsWord (record_words r)
 record_is_words r h = printed_words (record_words r) (record_printed r h)
 
--- a record's line comes apart into the record's words
+-- A record's line comes apart into the record's words.
 pub record_joined : (r : Record) → IsSpelled r → words_of (join_with_byte 32 (record_words r)) ≡ record_words r
 record_joined (Recv a bytes) h = words_joined _ _ (record_is_words (Recv a bytes) h)
 record_joined Overrun h = words_joined _ _ (record_is_words Overrun h)
@@ -96,24 +99,29 @@ joined_newline (word ∷ next ∷ words) h =
     list_any-append (λ b. b == 10) word (32 ∷ join_with_byte 32 (next ∷ words))
     ∙ or_from (has_newline word) (has_newline (join_with_byte 32 (next ∷ words))) (printed_newline word h.0) (joined_newline (next ∷ words) h.1)
 
--- a record's line has no newline before its last byte
+-- A record's line has no newline before its last byte.
 pub record_newline : (r : Record) → IsSpelled r → has_newline (join_with_byte 32 (record_words r)) ≡ false
 record_newline r h = joined_newline (record_words r) (record_printed r h)
 
+-- A line of a record has the words of the record.
 pub words_of_line : (line : List ℕ) (r : Record) → IsSpelled r → line ++ 10 ∷ [] ≡ record_line r → words_of line ≡ record_words r
 words_of_line line r h e = ap words_of (append_cancel_right line (join_with_byte 32 (record_words r)) (10 ∷ []) e) ∙ record_joined r h
 
-line_of_words : (line : List ℕ) (r : Record) → words_of line ≡ record_words r → line ++ 10 ∷ [] ≡ record_line r
+-- A line whose words are those of a record is its line.
+pub line_of_words : (line : List ℕ) (r : Record) → words_of line ≡ record_words r → line ++ 10 ∷ [] ≡ record_line r
 line_of_words line r e = ap (λ z. z ++ 10 ∷ []) (sym (joined_words line) ∙ ap (join_with_byte 32) e)
 
+-- Where words are those of a record, the line is its line.
 pub line_some : (line : List ℕ) (o : Option Record) → IsRecordOf (words_of line) o → IfSome o (λ r. IsSpelled r × (line ++ 10 ∷ [] ≡ record_line r))
 line_some line (Some r) h = (h.0, line_of_words line r h.1)
 line_some line None h = tt
 
-pub line_none : (line : List ℕ) (o : Option Record) → IsRecordOf (words_of line) o → IfNone o (IsNoLine line)
+-- Where words are those of no record, no record has the line.
+pub line_none : (line : List ℕ) (o : Option Record) → IsRecordOf (words_of line) o → IfNone o (IsNoRecord IsSpelled line)
 line_none line (Some r) h = tt
 line_none line None h = λ r k e. h r k (words_of_line line r k e)
 
+-- What holds of a result in Ok also holds in other words.
 pub if_ok : {X E : Type 0} (result : Result X E) (P Q : X → Type 0) → IfOk result P → ((x : X) → P x → Q x) → IfOk result Q
 if_ok (Ok x) P Q h k = k x h
 if_ok (Err e) P Q h k = h

@@ -1,18 +1,18 @@
 -- What a reader of bytes says of the hex digits that it was fed.
 use Rattle.std.specs.Prelude.{◌≡◌, ◌≢◌, ◌<◌, ◌≤◌, ◌*◌, ℕ, List, [], ◌∷◌, ◌++◌, length, flat_map, Option, Some, None}
-use Rattle.session_model.specs.Lines.{hex_digit, hex_byte, hex_word}
+use Rattle.session_model.specs.Lines.{dash, hex_digit, hex_byte, hex_word}
 use Rattle.session_model.specs.Transcript.{AreBytes}
-use Rattle.transcript_lines.specs.declared.bytes.Place.{Place}
-use Rattle.transcript_lines.specs.declared.bytes.Place.TheVariants.{Begin, Dash, Whole, Half, Bad}
+use Rattle.transcript_lines.specs.declared.bytes.Fed.{Fed}
+use Rattle.transcript_lines.specs.declared.bytes.Fed.TheVariants.{Begin, Dash, Whole, Half, Bad}
 
 -- No bytes have a spelling that begins like this.
 abbrev pub BeginsNoBytes : List ℕ → Type 0
 BeginsNoBytes fed = (more bytes : List ℕ) → AreBytes bytes → fed ++ more ≢ hex_word bytes
 
--- A reader with these bytes at this place was fed exactly this.
-abbrev pub ReadsAt : List ℕ → List ℕ → Place → Type 0
+-- A reader that holds these bytes, and was last fed such a byte, was fed exactly this.
+abbrev pub ReadsAt : List ℕ → List ℕ → Fed → Type 0
 ReadsAt fed bytes Begin = (fed ≡ []) × (bytes ≡ [])
-ReadsAt fed bytes Dash = (fed ≡ 45 ∷ []) × (bytes ≡ [])
+ReadsAt fed bytes Dash = (fed ≡ dash ∷ []) × (bytes ≡ [])
 ReadsAt fed bytes Whole = (fed ≡ flat_map hex_byte bytes) × (0 < length bytes) × AreBytes bytes
 ReadsAt fed bytes (Half high) = (fed ≡ flat_map hex_byte bytes ++ hex_digit high ∷ []) × (high < 16) × AreBytes bytes
 ReadsAt fed bytes Bad = BeginsNoBytes fed × (length bytes * 2 ≤ length fed)
@@ -28,5 +28,5 @@ IsDigitOf byte (Some value) = (value < 16) × (byte ≡ hex_digit value)
 IsDigitOf byte None = (value : ℕ) → value < 16 → byte ≢ hex_digit value
 
 -- A first digit that waits for its second is below 16.
-abbrev pub IsHalfSmall : Place → Type 0
-IsHalfSmall place = (high : ℕ) → place ≡ Half high → high < 16
+abbrev pub IsHalfSmall : Fed → Type 0
+IsHalfSmall last = (high : ℕ) → last ≡ Half high → high < 16

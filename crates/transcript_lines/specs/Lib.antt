@@ -3,3 +3,5 @@ pub mod Bytes
 pub mod BytesReader
 pub mod Words
 pub mod Line
+pub mod Spelling
+pub mod Handed

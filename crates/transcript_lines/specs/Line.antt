@@ -1,29 +1,13 @@
 -- Which record a line spells.
-use Rattle.std.specs.Prelude.{◌≡◌, ◌≢◌, ◌≤◌, ℕ, List, [], ◌∷◌, ◌++◌, length, codes, Option, Some, None}
-use Rattle.std.specs.List.{AllByRecursion}
+use Rattle.std.specs.Prelude.{◌≡◌, ◌≢◌, ℕ, List, ◌∷◌, codes, Option, Some, None}
 use Rattle.std.specs.Fmt.{decimal}
-use Rattle.session_model.specs.Transcript.{AreBytes, IsAddress, record_words, record_line, frame_word, mark_letter}
+use Rattle.session_model.specs.Transcript.{AreBytes, IsAddress, IsSpelled, record_words, record_line, frame_word, mark_letter}
 use Rattle.session_model.specs.declared.address.SocketAddr.{SocketAddr}
 use Rattle.session_model.specs.declared.transcript.Mark.{Mark}
 use Rattle.session_model.specs.declared.transcript.BatchFrame.{BatchFrame}
 use Rattle.session_model.specs.declared.transcript.Record.{Record}
-use Rattle.session_model.specs.declared.transcript.Record.TheVariants.{Recv, Overrun, Close, Batch}
 use Rattle.transcript_lines.specs.declared.line.Kind.{Kind}
 use Rattle.transcript_lines.specs.declared.line.Kind.TheVariants.{Recv as ForRecv, Overrun as ForOverrun, Close as ForClose, Batch as ForBatch}
-
-abbrev pub AreFrames : List BatchFrame → Type 0
-AreFrames frames = AllByRecursion (λ (frame : BatchFrame). AreBytes frame.bytes) frames
-
--- A line can spell this record: its numbers and bytes are in range, and a datagram has at most 65,536 bytes.
-abbrev pub IsSpelled : Record → Type 0
-IsSpelled (Recv source bytes) = IsAddress source × AreBytes bytes × (length bytes ≤ 65536)
-IsSpelled Overrun = Unit {0}
-IsSpelled Close = Unit {0}
-IsSpelled (Batch to frames) = IsAddress to × AreFrames frames
-
--- No record has this line.
-abbrev pub IsNoLine : List ℕ → Type 0
-IsNoLine line = (r : Record) → IsSpelled r → line ++ 10 ∷ [] ≢ record_line r
 
 -- Records that have one line are one record.
 abbrev pub SpellingIsInjective : Type 0
@@ -37,7 +21,8 @@ IsRecordOf words None = (r : Record) → IsSpelled r → words ≢ record_words 
 -- The first two words spell this address and the others are left, and None where they spell none.
 abbrev pub IsAddressOf : List (List ℕ) → Option SocketAddr → List (List ℕ) → Type 0
 IsAddressOf words (Some a) left = IsAddress a × (words ≡ decimal a.port ∷ decimal a.groups ∷ left)
-IsAddressOf words None left = (a : SocketAddr) (rest : List (List ℕ)) → IsAddress a → words ≢ decimal a.port ∷ decimal a.groups ∷ rest
+IsAddressOf words None left =
+    (a : SocketAddr) (rest : List (List ℕ)) → IsAddress a → words ≢ decimal a.port ∷ decimal a.groups ∷ rest
 
 -- This is the frame that the word spells, and None where it spells none.
 abbrev pub IsFrameOf : List ℕ → Option BatchFrame → Type 0
@@ -49,7 +34,7 @@ abbrev pub IsMarkOf : ℕ → Option Mark → Type 0
 IsMarkOf letter (Some mark) = letter ≡ mark_letter mark
 IsMarkOf letter None = (mark : Mark) → letter ≢ mark_letter mark
 
--- the first word of a record of this kind
+-- The first word of a record of this kind.
 abbrev pub keyword : Kind → List ℕ
 keyword ForRecv = codes "recv"
 keyword ForOverrun = codes "overrun"

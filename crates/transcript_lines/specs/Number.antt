@@ -14,6 +14,10 @@ ReadsNumber fed Begin = fed ≡ []
 ReadsNumber fed (Value number) = (number < 2 ^ 32) × (fed ≡ decimal number)
 ReadsNumber fed Bad = BeginsNoNumber fed
 
+-- Whatever a reader was fed, it was fed these bytes more.
+abbrev pub FeedsNumber : NumberReader → List ℕ → NumberReader → Type 0
+FeedsNumber before more after = (fed : List ℕ) → ReadsNumber fed before → ReadsNumber (fed ++ more) after
+
 -- This is the number below 2 ^ 32 that the word spells, and None where it spells none.
 abbrev pub IsNumberOf : List ℕ → Option ℕ → Type 0
 IsNumberOf word (Some number) = (number < 2 ^ 32) × (word ≡ decimal number)

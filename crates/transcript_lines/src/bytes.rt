@@ -1,4 +1,4 @@
-// Bytes, in two lower-case hex digits each, and `-` for no bytes.
+//! Bytes, in two lower-case hex digits each, and `-` for no bytes.
 ghost use Rattle.std.specs.Prelude.{List, ℕ, ◌++◌, ◌∷◌, [], ◌+◌, ◌*◌, ◌≤◌, ◌<◌, ◌≡◌, ◌≢◌, IfOk, OnOk, length};
 ghost use Rattle.session_model.specs.Lines.{hex_digit};
 ghost use Rattle.transcript_lines.specs.Bytes.{ReadsAt, AreBytesOf, IsDigitOf, IsHalfSmall};
@@ -8,7 +8,7 @@ use std::alloc::Global;
 
 // What was fed last.
 #[derive(Clone, Copy, PartialEq, Eq)]
-pub(crate) enum Place {
+pub(crate) enum Fed {
     // Nothing was fed yet.
     Begin,
     // A dash alone.
@@ -24,9 +24,9 @@ pub(crate) enum Place {
 /// What a reader made of the hex digits that it was fed: the bytes so far, and whether a digit is left over.
 #[derive(Drop)]
 pub struct BytesReader {
-    place: Place,
+    last: Fed,
     bytes: Octets,
-    ghost half_small: { IsHalfSmall place },
+    ghost half_small: { IsHalfSmall last },
 }
 
 // The value of a lower-case hex digit.
@@ -41,14 +41,14 @@ fn digit_value(byte: u8) -> Option<u8>
 }
 
 impl BytesReader {
-    ghost use Rattle.transcript_lines.specs.BytesReader.{ReadsBytes};
+    ghost use Rattle.transcript_lines.specs.BytesReader.{FeedsBytes, ReadsBytes};
 
     /// A reader that was fed nothing.
     pub fn new(alloc: Global) -> Self
         ensures { ReadsBytes [] result }
     {
         BytesReader {
-            place: Place::Begin,
+            last: Fed::Begin,
             bytes: Octets::new(alloc),
         }
     }
@@ -59,47 +59,49 @@ impl BytesReader {
     {
         let bytes = Vec::with_capacity(alloc, count)?;
         Ok(BytesReader {
-            place: Place::Begin,
+            last: Fed::Begin,
             bytes: Octets::from_vec(bytes),
         })
     }
 
+    // Takes a digit more, of this value.
     fn digit(&mut self, value: u8) -> Result<(), NoMemory>
         requires { value < 16 }
-        ensures { OnOk result ((fed : List ℕ) → ReadsBytes fed self.old → ReadsBytes (fed ++ hex_digit value ∷ []) self.new) }
+        ensures { OnOk result (FeedsBytes self.old (hex_digit value ∷ []) self.new) }
     {
-        match self.place {
-            Place::Begin | Place::Whole => {
-                self.place = Place::Half { high: value };
+        match self.last {
+            Fed::Begin | Fed::Whole => {
+                self.last = Fed::Half { high: value };
             }
-            Place::Half { high } => {
+            Fed::Half { high } => {
                 self.bytes.push(high * 16 + value)?;
-                self.place = Place::Whole;
+                self.last = Fed::Whole;
             }
-            Place::Dash | Place::Bad => {
-                self.place = Place::Bad;
+            Fed::Dash | Fed::Bad => {
+                self.last = Fed::Bad;
             }
         }
         Ok(())
     }
 
+    // Takes a byte more that is no digit.
     fn other(&mut self, byte: u8)
         requires { (value : ℕ) → value < 16 → byte ≢ hex_digit value }
-        ensures { (fed : List ℕ) → ReadsBytes fed self.old → ReadsBytes (fed ++ byte ∷ []) self.new }
+        ensures { FeedsBytes self.old (byte ∷ []) self.new }
     {
-        match self.place {
-            Place::Begin if byte == b'-' => {
-                self.place = Place::Dash;
+        match self.last {
+            Fed::Begin if byte == b'-' => {
+                self.last = Fed::Dash;
             }
             _ => {
-                self.place = Place::Bad;
+                self.last = Fed::Bad;
             }
         }
     }
 
     // Takes one byte more.
     fn take(&mut self, byte: u8) -> Result<(), NoMemory>
-        ensures { OnOk result ((fed : List ℕ) → ReadsBytes fed self.old → ReadsBytes (fed ++ byte ∷ []) self.new) }
+        ensures { OnOk result (FeedsBytes self.old (byte ∷ []) self.new) }
     {
         match digit_value(byte) {
             Some(value) => self.digit(value),
@@ -110,9 +112,9 @@ impl BytesReader {
         }
     }
 
-    /// The reader behind a piece more.
+    /// The reader after one more piece.
     pub fn feed(self, piece: &[u8]) -> Result<Self, NoMemory>
-        ensures { IfOk result (λ reader. (fed : List ℕ) → ReadsBytes fed self → ReadsBytes (fed ++ piece.now) reader) }
+        ensures { IfOk result (FeedsBytes self piece.now) }
     {
         let mut reader = self;
         for byte in piece {
@@ -125,8 +127,8 @@ impl BytesReader {
     pub fn end(self) -> Option<Octets>
         ensures { (fed : List ℕ) → ReadsBytes fed self → AreBytesOf fed result }
     {
-        match self.place {
-            Place::Dash | Place::Whole => Some(self.bytes),
+        match self.last {
+            Fed::Dash | Fed::Whole => Some(self.bytes),
             _ => None,
         }
     }

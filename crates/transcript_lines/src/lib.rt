@@ -1,15 +1,22 @@
-//! One line of a transcript, read exactly: each record has one line, and a line that no record has is told as none.
+//! The lines of a transcript, read exactly, and the lines of a session's text, written.
+//!
+//! Each record has one line, and a line that no record has is reported as none.
 #![tactic(auto)]
 
 mod bytes;
-mod law;
+mod laws;
 mod line;
 mod number;
+mod record;
+mod session_text;
+mod spelling;
 #[cfg(test)]
 mod tests;
 mod words;
 
 pub use bytes::BytesReader;
-pub use law::{one_outcome, one_record};
-pub use line::read_line;
+pub use laws::{every_input_has_an_outcome, one_record};
 pub use number::NumberReader;
+pub use record::read_record;
+pub use session_text::{put_closed, put_incoming, put_outgoing, put_reply};
+pub use spelling::{Word, put_line};

@@ -1,8 +1,10 @@
-// The record of a line.
-ghost use Rattle.std.specs.Prelude.{◌≡◌, List, ℕ, [], ◌∷◌, ◌++◌, codes, IfOk, IfSome, IfNone};
-ghost use Rattle.transcript_lines.specs.Line.{IsSpelled, IsNoLine, IsRecordOf, IsAddressOf, IsFrameOf, IsMarkOf, IsKindOf};
+//! The record that a line spells, whatever the frames of its batch are.
+ghost use Rattle.std.specs.Prelude.{◌≡◌, [], ◌∷◌, ◌++◌, codes, IfOk, IfSome, IfNone};
+ghost use Rattle.transcript_lines.specs.Line.{IsRecordOf, IsAddressOf, IsFrameOf, IsMarkOf, IsKindOf};
 ghost use Rattle.transcript_lines.specs.Words.{words_left};
-ghost use Rattle.session_model.specs.Transcript.{record_line};
+ghost use Rattle.session_model.specs.Lines.{newline};
+ghost use Rattle.session_model.specs.Transcript.{IsSpelled, record_line};
+ghost use Rattle.session_model.specs.Causes.{IsNoRecord};
 
 use crate::bytes::read_bytes;
 use crate::number::read_number;
@@ -56,7 +58,7 @@ fn read_address(words: &mut Words) -> Option<SocketAddr>
 }
 
 // The frame that a word of a batch spells.
-fn read_frame(alloc: Global, word: &[u8]) -> Result<Option<BatchFrame>, NoMemory>
+fn spelled_frame(alloc: Global, word: &[u8]) -> Result<Option<BatchFrame>, NoMemory>
     ensures { IfOk result (IsFrameOf word.now) }
 {
     let [letter, b':', digits @ ..] = word else {
@@ -71,7 +73,7 @@ fn read_frame(alloc: Global, word: &[u8]) -> Result<Option<BatchFrame>, NoMemory
     }
 }
 
-// The datagram that the words behind `recv` spell.
+// The datagram that the words after `recv` spell.
 fn read_datagram(alloc: Global, words: Words) -> Result<Option<Record>, NoMemory>
     ensures { IfOk result (IsRecordOf (codes "recv" ∷ words_left words.entry)) }
 {
@@ -94,7 +96,7 @@ fn read_datagram(alloc: Global, words: Words) -> Result<Option<Record>, NoMemory
     }
 }
 
-// The batch that the words behind `batch` spell.
+// The batch that the words after `batch` spell.
 fn read_batch(alloc: Global, words: Words) -> Result<Option<Record>, NoMemory>
     ensures { IfOk result (IsRecordOf (codes "batch" ∷ words_left words.entry)) }
 {
@@ -104,7 +106,7 @@ fn read_batch(alloc: Global, words: Words) -> Result<Option<Record>, NoMemory>
     };
     let mut frames = Items::new(alloc);
     for word in words {
-        match read_frame(alloc, word)? {
+        match spelled_frame(alloc, word)? {
             Some(frame) => frames.push(frame)?,
             None => return Ok(None),
         }
@@ -113,7 +115,7 @@ fn read_batch(alloc: Global, words: Words) -> Result<Option<Record>, NoMemory>
 }
 
 // The record that the words of a line spell.
-fn read_record(alloc: Global, words: Words) -> Result<Option<Record>, NoMemory>
+fn record_of_words(alloc: Global, words: Words) -> Result<Option<Record>, NoMemory>
     ensures { IfOk result (IsRecordOf (words_left words.entry)) }
 {
     let mut words = words;
@@ -129,11 +131,11 @@ fn read_record(alloc: Global, words: Words) -> Result<Option<Record>, NoMemory>
     }
 }
 
-/// The record that a line, without its newline, spells, and `None` where it spells none. A record has one line, and no
-/// two records have the same; a line with a newline inside is none. Want of memory is the only error.
-pub fn read_line(alloc: Global, line: &[u8]) -> Result<Option<Record>, NoMemory>
-    ensures some { IfOk result (λ o. IfSome o (λ r. IsSpelled r × (line.now ++ 10 ∷ [] ≡ record_line r))) }
-    ensures none { IfOk result (λ o. IfNone o (IsNoLine line.now)) }
+// The record that a line, without its newline, spells, and `None` where it spells none. A record has one line, and no
+// two records have the same; a line with a newline inside is none.
+pub(crate) fn spelled_record(alloc: Global, line: &[u8]) -> Result<Option<Record>, NoMemory>
+    ensures some { IfOk result (λ o. IfSome o (λ r. IsSpelled r × (line.now ++ newline ∷ [] ≡ record_line r))) }
+    ensures none { IfOk result (λ o. IfNone o (IsNoRecord IsSpelled line.now)) }
 {
-    read_record(alloc, Words::new(line))
+    record_of_words(alloc, Words::new(line))
 }

@@ -1,6 +1,6 @@
-// A number below 2^32, in decimal digits with no leading zero.
+//! A number below 2^32, in decimal digits with no leading zero.
 ghost use Rattle.std.specs.Prelude.{List, ℕ, ◌++◌, ◌∷◌, []};
-ghost use Rattle.transcript_lines.specs.Number.{ReadsNumber, IsNumberOf};
+ghost use Rattle.transcript_lines.specs.Number.{FeedsNumber, ReadsNumber, IsNumberOf};
 
 /// What a reader made of the digits that it was fed: the number so far, if more digits may follow or the word may end.
 #[derive(Clone, Copy, Debug, PartialEq, Eq)]
@@ -21,9 +21,9 @@ impl NumberReader {
         NumberReader::Begin
     }
 
-    // The reader behind one byte more.
+    // The reader after one more byte.
     fn next(self, byte: u8) -> Self
-        ensures { (fed : List ℕ) → ReadsNumber fed self → ReadsNumber (fed ++ byte ∷ []) result }
+        ensures { FeedsNumber self (byte ∷ []) result }
     {
         if !byte.is_ascii_digit() {
             return NumberReader::Bad;
@@ -48,9 +48,9 @@ impl NumberReader {
         }
     }
 
-    /// The reader behind a piece more.
+    /// The reader after one more piece.
     pub fn feed(self, piece: &[u8]) -> Self
-        ensures { (fed : List ℕ) → ReadsNumber fed self → ReadsNumber (fed ++ piece.now) result }
+        ensures { FeedsNumber self piece.now result }
     {
         let mut reader = self;
         for byte in piece {

@@ -1,7 +1,12 @@
-// Lines with the records that they spell, and lines that spell none.
-use super::{BytesReader, NumberReader, one_outcome, one_record, read_line};
-use nl_core::{Items, NoMemory, Octets};
-use session_model::{BatchFrame, Mark, Record, SocketAddr};
+//! Lines with the records that they spell, lines that spell none, and lines that are written.
+use super::line::spelled_record;
+use super::{
+    BytesReader, NumberReader, Word, every_input_has_an_outcome, one_record, put_closed,
+    put_incoming, put_line, put_outgoing, put_reply, read_record,
+};
+use nl_core::{Items, NetlinkHeader, NetlinkMessage, NetlinkPayload, NoMemory, Octets, RawMessage};
+use proto_core::{Incoming, Outgoing, Response};
+use session_model::{BatchFrame, Mark, Record, Settings, SocketAddr};
 use std::alloc::Global;
 use std::test::Fail;
 
@@ -113,7 +118,7 @@ static LINES: [(&[u8], Expected); 44] = [
 #[test]
 fn reads_lines(rt: HostRuntime) -> Result<(), Fail> {
     for (line, expected) in &LINES {
-        let read = read_line(rt.alloc(), line)?;
+        let read = spelled_record(rt.alloc(), line)?;
         let expected = record(rt.alloc(), *expected)?;
         assert!(rt; read == expected, "at {line:?}");
     }
@@ -135,7 +140,7 @@ fn bounds_datagrams(rt: HostRuntime) -> Result<(), Fail> {
             line.extend_from_slice(b"a5")?;
         }
         assert_eq!(rt;
-            read_line(rt.alloc(), &line)?.is_some(),
+            spelled_record(rt.alloc(), &line)?.is_some(),
             is_read,
             "at {count}"
         );
@@ -146,7 +151,7 @@ fn bounds_datagrams(rt: HostRuntime) -> Result<(), Fail> {
 #[test]
 fn reads_pieces(rt: HostRuntime) -> Result<(), Fail> {
     one_record();
-    one_outcome();
+    every_input_has_an_outcome::<RawMessage>();
     assert_eq!(rt;
         NumberReader::new().feed(b"12").feed(b"").feed(b"30").end(),
         Some(1230)
@@ -156,5 +161,96 @@ fn reads_pieces(rt: HostRuntime) -> Result<(), Fail> {
     let read = BytesReader::new(rt.alloc()).feed(b"c")?.feed(b"0de")?.end();
     assert!(rt; read == Some(octets(rt.alloc(), b"\xc0\xde")?));
     drop(reader);
+    Ok(())
+}
+
+static FRAMES: [(&[u8], bool); 6] = [
+    (b"batch 0 0 f:10000000180001000000000000000000", true),
+    (b"batch 0 0 f:11000000180001000000000000000000", false),
+    (b"batch 0 0 f:0f000000180001000000000000000000", false),
+    (b"batch 0 0 e:1000000018000100000000000000000000", false),
+    (b"batch 0 0 n:-", false),
+    (b"recv 0 0 00", true),
+];
+
+// The length field of a frame is its count of bytes. What a datagram holds isn't looked at.
+#[test]
+fn reads_whole_frames(rt: HostRuntime) -> Result<(), Fail> {
+    for (line, is_read) in &FRAMES {
+        let read = read_record::<RawMessage>(rt.alloc(), line)?;
+        assert_eq!(rt; read.is_some(), *is_read, "at {line:?}");
+    }
+    Ok(())
+}
+
+fn message(payload: NetlinkPayload<RawMessage>) -> NetlinkMessage<RawMessage> {
+    NetlinkMessage {
+        header: NetlinkHeader {
+            length: 18,
+            message_type: 24,
+            flags: 2,
+            sequence_number: 9,
+            port_number: 5,
+        },
+        payload,
+    }
+}
+
+fn inner(alloc: Global) -> Result<NetlinkMessage<RawMessage>, NoMemory> {
+    let bytes = octets(alloc, b"\xc0\xde")?;
+    Ok(message(NetlinkPayload::InnerMessage(RawMessage {
+        message_type: 24,
+        bytes,
+    })))
+}
+
+const WRITTEN: &[u8] = b"unsol 3 0 64 24 2 9 5 c0de
+reply 4 2 24 2 9 5 c0de
+sent 1 0 12000000180002000900000005000000c0de
+closed 7
+ok yes 10 ff00 -
+";
+
+// One line of each kind. A reply that is kept back and a datagram of no messages have none.
+#[test]
+fn writes_lines(rt: HostRuntime) -> Result<(), Fail> {
+    let mut text = Vec::new(rt.alloc());
+    let incoming = Incoming {
+        message: inner(rt.alloc())?,
+        source: SocketAddr {
+            port: 0,
+            groups: 64,
+        },
+        arrival: 3,
+    };
+    put_incoming(rt.alloc(), &mut text, &incoming)?;
+    for (arrival, message) in [
+        (4u64, inner(rt.alloc())?),
+        (5, message(NetlinkPayload::Noop)),
+    ] {
+        let response = Response {
+            done: true,
+            message,
+            metadata: 2u64,
+            arrival,
+        };
+        put_reply(rt.alloc(), &Settings::usual(), &mut text, &response)?;
+    }
+    let mut outgoing = Outgoing {
+        messages: Items::new(rt.alloc()),
+        destination: SocketAddr { port: 1, groups: 0 },
+    };
+    put_outgoing(rt.alloc(), &mut text, &outgoing)?;
+    outgoing.messages.push(inner(rt.alloc())?)?;
+    put_outgoing(rt.alloc(), &mut text, &outgoing)?;
+    put_closed(&mut text, 7)?;
+    let words = [
+        Word::Plain(b"yes"),
+        Word::Number(10),
+        Word::Hex(b"\xff\x00"),
+        Word::Hex(b""),
+    ];
+    put_line(&mut text, b"ok", &words)?;
+    assert_eq!(rt; text.as_slice(), WRITTEN);
     Ok(())
 }

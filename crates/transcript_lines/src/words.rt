@@ -1,4 +1,4 @@
-// The words of a line: what stands between its blanks.
+//! The words of a line: what stands between its spaces.
 ghost use Rattle.std.specs.Prelude.{◌≡◌, [], ◌∷◌};
 ghost use Rattle.std.specs.Option.{option_map_or};
 ghost use Rattle.std.specs.Iterator.{item_count, YieldsFirstRef};
@@ -33,7 +33,7 @@ impl<'a> Iterator for Words<'a> {
     }
 }
 
-// The word before the first blank, and what follows that blank.
+// The word before the first space, and what follows that space.
 fn split_first_word(line: &[u8]) -> (&[u8], Option<&[u8]>)
     ensures { words_of line.now ≡ result.0.now ∷ option_map_or (λ rest. words_of rest.now) result.1 [] }
 {

@@ -5,7 +5,7 @@ use Rattle.std.proofs.lemmas.Nat.Bits.{ones_shl}
 use Rattle.std.specs.Int.Count.{ones-ones}
 use Rattle.num_traits.specs.Laws.{bit_len, shift_left}
 
--- `zero().count_zeros()` is the number of bits
+-- `zero().count_zeros()` is the number of bits.
 pub zeros-zero : (w : Width) → count_zeros w 0 ≡ bit_len w
 zeros-zero w8 = ones-ones 8
 zeros-zero w16 = ones-ones 16
@@ -21,7 +21,7 @@ ones-shift w32 k h = ones_shl 32 k h
 ones-shift w64 k h = ones_shl 64 k h
 ones-shift w128 k h = ones_shl 128 k h
 
--- `!0` has a number of its width
+-- `!0` has a number of its width.
 pub not-zero_fits : (w : Width) → bit_not w 0 < 2 ^ bit_len w
 not-zero_fits w8 = lit< tt
 not-zero_fits w16 = lit< tt

@@ -1,4 +1,5 @@
-pub mod Forms
 pub mod Lending
 pub mod Moves
+pub mod Shape
 pub mod Walking
+pub mod TrieRefs

@@ -8,9 +8,8 @@ mod masks;
 mod node;
 mod prefix;
 mod prefixes;
-mod refs;
 mod set;
-mod try_clone;
+mod trie_ref;
 mod view;
 mod walk;
 
@@ -23,11 +22,11 @@ pub use masks::{
     child_bit, child_cover_mask, child_cover_mask_for_bit, data_bit, data_cover_mask,
     data_cover_mask_for_bit, data_lpm_mask, extend_repr, reconstruct_prefix,
 };
+pub use nl_core::TryClone;
 pub use node::{Start, Steps};
-pub use prefix::{Place, Prefix, Word, mask_from_prefix_len};
-pub use refs::TrieRef;
+pub use prefix::{KeyBits, PlainPrefix, Prefix, lies_in, mask_from_prefix_len};
 pub use set::PrefixSet;
-pub use try_clone::TryClone;
+pub use trie_ref::TrieRef;
 pub use view::{AsView, CloneView, TrieView};
 pub use walk::ViewIter;
 

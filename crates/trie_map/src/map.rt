@@ -2,19 +2,23 @@
 
 ghost use Rattle.std.specs.Prelude.{◌≡◌, ◌↔◌, ◌+◌, ◌-◌, ◌^◌, ◌<◌, ◌≤◌, [], ⊤, length, min, IsTrue, IsSome, Some, IfOk, IfErr, IfNone, IfSome, OnOk, OnErr, OnSome};
 ghost use Rattle.std.specs.Option.{option_copied, option_copied_mut};
-ghost use Rattle.trie_map.specs.Walking.{CanWalk, IsFrugalWalk, ToCome};
-ghost use Rattle.trie_model.specs.Inside.{LiesIn, SomeIn};
-ghost use Rattle.trie_model.specs.Maps.{LongestMatch, inserted, missing, present, removed, value_at};
-ghost use Rattle.trie_model.specs.Nets.{Net};
-ghost use Rattle.trie_model.specs.Walks.{From, IsListOf, Within, pairs_from};
+ghost use Rattle.trie_model.specs.Inside.{SomeIn};
+ghost use Rattle.trie_model.specs.Maps.{inserted, missing, present, removed, value_at};
+ghost use Rattle.trie_model.specs.Nets.{Net, IsNet, masked};
+ghost use Rattle.trie_model.specs.Views.{Shows, root_place};
+ghost use Rattle.trie_model.proofs.Places.{show_same};
+ghost use Rattle.trie_model.specs.Walks.{IsListOf, Within};
+ghost use Rattle.trie_map.specs.Shape.{node_shape};
+ghost use Rattle.trie_map.specs.TrieRefs.{ref_value, CanWalkRef, IsFrugalRefWalk, IsLongestMatch, HasPairsOf, HasPairsIn, WalksFrom, ListsFrom, IsRefAt, ListsAll};
 
-use crate::node::{Deepest, Descent, Node, Steps, empty, find, longest, put, take};
-use crate::prefix::Place;
-use crate::refs::{TrieRef, root_view, view_inside};
-use crate::try_clone::TryClone;
+use crate::node::{
+    Deepest, Descent, Node, Steps, empty, get_below, insert_below, lpm_below, remove_below,
+};
+use crate::prefix::PlainPrefix;
+use crate::trie_ref::{TrieRef, root_view, view_inside};
 use crate::view::{AsView, TrieView};
 use crate::walk::ViewIter;
-use nl_core::NoMemory;
+use nl_core::{NoMemory, TryClone};
 use std::alloc::Global;
 use std::marker::{Model, PhantomData};
 
@@ -22,28 +26,28 @@ use std::marker::{Model, PhantomData};
 /// pairs, in the order of the prefixes: by bits, then by length. The cost of an insert, a removal or a
 /// look-up grows with the prefix's length, and not with the number of entries.
 #[derive(Drop)]
-pub struct PrefixMap<P: Place, T> {
+pub struct PrefixMap<P: PlainPrefix, T> {
     root: Node<T>,
     count: usize,
     alloc: Global,
     of: PhantomData<P>,
 }
 
-impl<P: Place, T> Model for PrefixMap<P, T> {
+impl<P: PlainPrefix, T> Model for PrefixMap<P, T> {
     ghost use Rattle.std.specs.Prelude.{List};
     ghost use Rattle.trie_model.specs.Nets.{Net};
 
     ghost Value = { List (Net × T) };
 
-    ghost use Rattle.trie_map.specs.Forms.{node_form};
+    ghost use Rattle.trie_map.specs.Shape.{node_shape};
     ghost use Rattle.trie_model.specs.Maps.{MapOk, map_of, pairs};
 
-    ghost view = { λ m. pairs P.Number.width (map_of node_form P.Number.width m.root) };
+    ghost view = { λ m. pairs P.Number.width (map_of node_shape P.Number.width m.root) };
 
-    ghost invariant = { λ m. MapOk node_form P.Number.width m.root m.count };
+    ghost invariant = { λ m. MapOk node_shape P.Number.width m.root m.count };
 }
 
-impl<P: Place, T> PrefixMap<P, T> {
+impl<P: PlainPrefix, T> PrefixMap<P, T> {
     /// The map with no entry.
     pub fn new(alloc: Global) -> Self
         ensures { result ≡ [] }
@@ -63,6 +67,14 @@ impl<P: Place, T> PrefixMap<P, T> {
         self.count
     }
 
+    /// The list of the entries is in order, and each prefix is without host bits. It does nothing.
+    pub fn in_order(&self)
+        ensures list { IsListOf P.Number.width (Within self.now) self.now }
+        ensures nets { (n : Net) (x : T) → Within self.now n x → IsNet P.Number.width n }
+    {
+        let _count = self.count;
+    }
+
     /// Whether there is no entry.
     pub fn is_empty(&self) -> bool
         ensures { IsTrue result ↔ (self.now ≡ []) }
@@ -76,7 +88,7 @@ impl<P: Place, T> PrefixMap<P, T> {
         ensures { option_copied result ≡ value_at self.now (P.net prefix.now) }
     {
         let key = prefix.number();
-        find(
+        get_below(
             &self.root,
             0,
             key,
@@ -96,11 +108,11 @@ impl<P: Place, T> PrefixMap<P, T> {
     /// The longest entry whose prefix contains this one, without host bits.
     pub fn get_lpm(&self, prefix: &P) -> Option<(P, &T)>
         requires { (P.net prefix.now).len ≤ P.Number.width }
-        ensures longest { LongestMatch P.Number.width (λ r. P.net r.0) (λ r. r.1.now) self.now (P.net prefix.now) result }
+        ensures longest { IsLongestMatch P.Number.width P.net self.now (P.net prefix.now) result }
         ensures masked { IfSome result (λ r. P.raw r.0 ≡ (P.net r.0).bits) }
     {
         let key = prefix.number();
-        match longest(
+        match lpm_below(
             &self.root,
             0,
             key,
@@ -115,8 +127,8 @@ impl<P: Place, T> PrefixMap<P, T> {
     /// The view of the whole map. It visits the root, and takes no memory.
     pub fn view_counted<'a, L>(&'a self, steps: &mut Steps<L>) -> TrieRef<'a, P, T>
         ensures usable { ⟦<TrieRef<'a, P, T> as TrieView<'a>>⟧.valid result }
-        ensures place { (⟦<TrieRef<'a, P, T> as TrieView<'a>>⟧.told result).place ≡ record { bits = 0; len = 0 } }
-        ensures pairs { (n : Net) (x : T) → (⟦<TrieRef<'a, P, T> as TrieView<'a>>⟧.told result).at n x ↔ Within self.now n x }
+        ensures place { IsRefAt P.Number.number P.Number.width root_place result }
+        ensures pairs { HasPairsOf P.Number.number P.Number.width self.now result }
         ensures counted { steps.new ≡ min (steps.old + 1) (2 ^ 64 - 1) }
     {
         root_view(&self.root, steps)
@@ -125,8 +137,8 @@ impl<P: Place, T> PrefixMap<P, T> {
     /// The view of the whole map.
     pub fn view<'a>(&'a self) -> TrieRef<'a, P, T>
         ensures usable { ⟦<TrieRef<'a, P, T> as TrieView<'a>>⟧.valid result }
-        ensures place { (⟦<TrieRef<'a, P, T> as TrieView<'a>>⟧.told result).place ≡ record { bits = 0; len = 0 } }
-        ensures pairs { (n : Net) (x : T) → (⟦<TrieRef<'a, P, T> as TrieView<'a>>⟧.told result).at n x ↔ Within self.now n x }
+        ensures place { IsRefAt P.Number.number P.Number.width root_place result }
+        ensures pairs { HasPairsOf P.Number.number P.Number.width self.now result }
     {
         self.view_counted(&mut Steps::start())
     }
@@ -138,39 +150,39 @@ impl<P: Place, T> PrefixMap<P, T> {
         ensures found { OnSome result (SomeIn P.Number.width (P.net prefix.now) self.now) }
         ensures none { IfNone result (¬ SomeIn P.Number.width (P.net prefix.now) self.now) }
         ensures usable { IfSome result (λ view. ⟦<TrieRef<'a, P, T> as TrieView<'a>>⟧.valid view) }
-        ensures place { IfSome result (λ view. (⟦<TrieRef<'a, P, T> as TrieView<'a>>⟧.told view).place ≡ P.net prefix.now) }
-        ensures pairs { IfSome result (λ view. (n : Net) (x : T) → (⟦<TrieRef<'a, P, T> as TrieView<'a>>⟧.told view).at n x ↔ LiesIn P.Number.width (P.net prefix.now) self.now n x) }
+        ensures place { IfSome result (IsRefAt P.Number.number P.Number.width (P.net prefix.now)) }
+        ensures pairs { IfSome result (HasPairsIn P.Number.number P.Number.width (P.net prefix.now) self.now) }
     {
         view_inside(&self.root, prefix)
     }
 
     /// The walk over the entries, in the order of their prefixes.
     pub fn iter<'a>(&'a self) -> Result<ViewIter<TrieRef<'a, P, T>>, NoMemory>
-        ensures usable { IfOk result (λ walk. CanWalk ⟦<TrieRef<'a, P, T> as TrieView<'a>>⟧.valid ⟦<TrieRef<'a, P, T> as TrieView<'a>>⟧.told P.Number.width walk) }
-        ensures frugal { IfOk result (λ walk. IsFrugalWalk ⟦<TrieRef<'a, P, T> as TrieView<'a>>⟧.told walk) }
-        ensures list { IfOk result (λ walk. IsListOf P.Number.width (ToCome ⟦<TrieRef<'a, P, T> as TrieView<'a>>⟧.told P.Number.width walk) self.now) }
+        ensures usable { IfOk result (CanWalkRef P.Number.number P.Number.width) }
+        ensures frugal { IfOk result (IsFrugalRefWalk P.Number.number P.Number.width) }
+        ensures list { IfOk result (ListsAll P.Number.number P.Number.width self.now) }
     {
         ViewIter::new(self.alloc, self.view())
     }
 
     /// The walk over the entries from a prefix on: that of the prefix itself too where `inclusive`, and
-    /// those that come behind it in the order.
+    /// those that come after it in the order.
     pub fn iter_from<'a>(
         &'a self,
         prefix: &P,
         inclusive: bool,
     ) -> Result<ViewIter<TrieRef<'a, P, T>>, NoMemory>
         requires { (P.net prefix.now).len ≤ P.Number.width }
-        ensures usable { IfOk result (λ walk. CanWalk ⟦<TrieRef<'a, P, T> as TrieView<'a>>⟧.valid ⟦<TrieRef<'a, P, T> as TrieView<'a>>⟧.told P.Number.width walk) }
-        ensures frugal { IfOk result (λ walk. IsFrugalWalk ⟦<TrieRef<'a, P, T> as TrieView<'a>>⟧.told walk) }
-        ensures rest { IfOk result (λ walk. (n : Net) (x : T) → ToCome ⟦<TrieRef<'a, P, T> as TrieView<'a>>⟧.told P.Number.width walk n x ↔ (Within self.now n x × From P.Number.width inclusive (P.net prefix.now) n)) }
-        ensures list { IfOk result (λ walk. IsListOf P.Number.width (ToCome ⟦<TrieRef<'a, P, T> as TrieView<'a>>⟧.told P.Number.width walk) (pairs_from P.Number.width inclusive (P.net prefix.now) self.now)) }
+        ensures usable { IfOk result (CanWalkRef P.Number.number P.Number.width) }
+        ensures frugal { IfOk result (IsFrugalRefWalk P.Number.number P.Number.width) }
+        ensures rest { IfOk result (WalksFrom P.Number.number P.Number.width inclusive (P.net prefix.now) self.now) }
+        ensures list { IfOk result (ListsFrom P.Number.number P.Number.width inclusive (P.net prefix.now) self.now) }
     {
         ViewIter::starting(self.alloc, self.view(), prefix, inclusive)
     }
 }
 
-impl<P: Place, T> PrefixMap<P, T> {
+impl<P: PlainPrefix, T> PrefixMap<P, T> {
     ghost use Rattle.std.specs.Borrow.{Lends, LendsIf, sem};
     ghost use Rattle.trie_map.specs.contracts.map.PrefixMap.{the_row};
 
@@ -178,7 +190,7 @@ impl<P: Place, T> PrefixMap<P, T> {
     fn entry_mut(&mut self, prefix: &P) -> &mut T
         requires len { (P.net prefix.now).len ≤ P.Number.width }
         requires there { IsSome (value_at self.old (P.net prefix.now)) }
-        ensures* lends { sem 𝓛 (Lends (the_row P.row T.row P.Number.row P.Place P.Number.Word) T.row self.entry result (λ x. inserted P.Number.width self.entry.now (P.net prefix.now) x)) }
+        ensures* lends { sem 𝓛 (Lends (the_row P.row T.row P.Number.row P.PlainPrefix P.Number.KeyBits) T.row self.entry result (inserted P.Number.width self.entry.now (P.net prefix.now))) }
         ensures value { value_at self.old (P.net prefix.now) ≡ Some result.now }
     {
         let key = prefix.number();
@@ -189,7 +201,7 @@ impl<P: Place, T> PrefixMap<P, T> {
     /// other entries stay.
     pub fn get_mut(&mut self, prefix: &P) -> Option<&mut T>
         requires { (P.net prefix.now).len ≤ P.Number.width }
-        ensures* lends { sem 𝓛 (LendsIf (the_row P.row T.row P.Number.row P.Place P.Number.Word) T.row self.entry result (λ x. inserted P.Number.width self.entry.now (P.net prefix.now) x) self.entry.now) }
+        ensures* lends { sem 𝓛 (LendsIf (the_row P.row T.row P.Number.row P.PlainPrefix P.Number.KeyBits) T.row self.entry result (inserted P.Number.width self.entry.now (P.net prefix.now)) self.entry.now) }
         ensures value { option_copied_mut result ≡ value_at self.old (P.net prefix.now) }
     {
         if self.contains_key(prefix) {
@@ -200,7 +212,7 @@ impl<P: Place, T> PrefixMap<P, T> {
     }
 }
 
-impl<P: Place, T: Drop> PrefixMap<P, T> {
+impl<P: PlainPrefix, T: Drop> PrefixMap<P, T> {
     /// Sets the value of a prefix, and gives the value that was there. All room is taken first: a
     /// refusal changes nothing, and hands the prefix and the value back.
     pub fn insert(&mut self, prefix: P, value: T) -> Result<Option<T>, (NoMemory, P, T)>
@@ -214,7 +226,7 @@ impl<P: Place, T: Drop> PrefixMap<P, T> {
             return Err((NoMemory, prefix, value));
         }
         let key = prefix.number();
-        match put(
+        match insert_below(
             self.alloc,
             &mut self.root,
             0,
@@ -256,25 +268,27 @@ impl<P: Place, T: Drop> PrefixMap<P, T> {
         ensures gone { self.new ≡ removed self.old (P.net prefix.now) }
     {
         let key = prefix.number();
-        let was = take(&mut self.root, 0, key, prefix.length() as u32);
+        let was = remove_below(&mut self.root, 0, key, prefix.length() as u32);
         self.count = count_without(self.count, &was);
         was
     }
 }
 
-impl<'a, P: Place, T> AsView<'a> for &'a PrefixMap<P, T> {
+impl<'a, P: PlainPrefix, T> AsView<'a> for &'a PrefixMap<P, T> {
     type View = TrieRef<'a, P, T>;
 
     ghost can_view = { λ m. ⊤ };
 
-    ghost stands_for = { λ view m. ((⟦<TrieRef<'a, P, T> as TrieView<'a>>⟧.told view).place ≡ record { bits = 0; len = 0 }) × ((n : Net) (x : T) → (⟦<TrieRef<'a, P, T> as TrieView<'a>>⟧.told view).at n x ↔ Within m.now n x) };
+    ghost stands_for = { λ view m. Shows (ref_value P.Number.number P.Number.width view) root_place (Within m.now) };
 
     fn view(self) -> TrieRef<'a, P, T> {
         self.view_counted(&mut Steps::start())
     }
+
+    ghost stands_law = { λ a b m. show_same (ref_value P.Number.number P.Number.width) a b root_place (Within m.now) };
 }
 
-impl<P: Place, T: TryClone + Drop> TryClone for PrefixMap<P, T> {
+impl<P: PlainPrefix, T: TryClone + Drop> TryClone for PrefixMap<P, T> {
     fn clone_with(&self) -> Result<Self, NoMemory> {
         PrefixMap::clone_with(self, |item| item.clone_with())
     }

@@ -4,16 +4,16 @@
 //! children at depth d + 5. The data bit of a prefix of length d + l is `2^l - 1` plus the next l
 //! bits of its key, as in the crate prefix-trie. Key bits past the end count as 0.
 
-ghost use Rattle.std.specs.Prelude.{◌≡◌, ℕ, ◌+◌, ◌<◌, ◌^◌, ◌≤◌, cond};
-ghost use Rattle.std.specs.Int.{bit_at};
-ghost use Rattle.trie_model.specs.Nets.{Net, covers};
-ghost use Rattle.trie_model.specs.Views.{level_of, net_of_bit, depth_at, child_net};
-ghost use Rattle.trie_model.specs.Heap.{bits_toward, level_at, data_bit_of, five_bits, row_below, rows_below, children_below, bit_above, bits_above, child_at, prefix_net};
+ghost use Rattle.std.specs.Prelude.{◌≡◌, ℕ, ◌+◌, ◌<◌, ◌^◌, ◌≤◌};
+ghost use Rattle.trie_model.specs.Nets.{covers};
+ghost use Rattle.trie_model.specs.Views.{level_of, net_of_bit};
+ghost use Rattle.trie_model.specs.Spots.{bits_toward, level_at, data_bit_of, five_bits, row_below, rows_below, children_below, bit_above, bits_above, child_at, prefix_net};
+ghost use Rattle.trie_model.specs.Masks.{IsDataMask, IsChildMask, IsWholeMask, covers_bit, covers_child, bit_covers};
 
-use crate::prefix::{Place, Word};
+use crate::prefix::{KeyBits, PlainPrefix};
 
 /// The data bit of a prefix of the node at `depth`.
-pub fn data_bit<W: Word>(depth: u32, key: W, len: u32) -> u32
+pub fn data_bit<W: KeyBits>(depth: u32, key: W, len: u32) -> u32
     requires fits { W.number key < 2 ^ W.width }
     requires low { depth ≤ len }
     requires high { len ≤ depth + 4 }
@@ -27,7 +27,7 @@ pub fn data_bit<W: Word>(depth: u32, key: W, len: u32) -> u32
 }
 
 /// The child that a key leads to: the next five bits of the key.
-pub fn child_bit<W: Word>(depth: u32, key: W) -> u32
+pub fn child_bit<W: KeyBits>(depth: u32, key: W) -> u32
     requires fits { W.number key < 2 ^ W.width }
     requires depth { depth ≤ W.width }
     ensures bit { result ≡ five_bits W.width depth (W.number key) }
@@ -38,7 +38,7 @@ pub fn child_bit<W: Word>(depth: u32, key: W) -> u32
 }
 
 /// The key of a child of the node at `depth` on the way to `key`.
-pub fn extend_repr<W: Word>(key: W, depth: u32, child: u32) -> W
+pub fn extend_repr<W: KeyBits>(key: W, depth: u32, child: u32) -> W
     requires fits { W.number key < 2 ^ W.width }
     requires depth { depth + 5 ≤ W.width }
     requires child { child < 32 }
@@ -48,7 +48,7 @@ pub fn extend_repr<W: Word>(key: W, depth: u32, child: u32) -> W
 }
 
 /// The prefix of a data bit of the node at `depth` on the way to `key`.
-pub fn reconstruct_prefix<P: Place>(depth: u32, key: P::Number, bit: u32) -> P
+pub fn reconstruct_prefix<P: PlainPrefix>(depth: u32, key: P::Number, bit: u32) -> P
     requires fits { P.Number.number key < 2 ^ P.Number.width }
     requires bit { bit < 31 }
     requires end { depth + level_of bit ≤ P.Number.width }
@@ -80,7 +80,7 @@ fn row(spot: u32, rows: u32) -> u32
 /// The data bits inside the prefix of a data bit.
 pub fn data_cover_mask_for_bit(bit: u32) -> u32
     requires { bit < 31 }
-    ensures mask { (w depth key b : ℕ) → b < 31 → depth + level_of b ≤ w → bit_at result b ≡ cond (covers w (net_of_bit w depth key bit) (net_of_bit w depth key b)) 1 0 }
+    ensures mask { (w d k : ℕ) → IsDataMask w d result (λ b. covers w (net_of_bit w d k bit) (net_of_bit w d k b)) }
     ensures small { result < 2 ^ 31 }
     ensures rows { result ≡ rows_below (bit + 1) }
 {
@@ -109,7 +109,8 @@ pub(crate) fn level(bit: u32) -> u32
 /// The children inside the prefix of a data bit.
 pub fn child_cover_mask_for_bit(bit: u32) -> u32
     requires { bit < 31 }
-    ensures mask { (w depth key child : ℕ) → child < 32 → depth + 5 ≤ w → bit_at result child ≡ cond (covers w (net_of_bit w depth key bit) (child_at w depth key child)) 1 0 }
+    ensures mask { (w d k : ℕ) → IsChildMask w d result (λ c. covers w (net_of_bit w d k bit) (child_at w d k c)) }
+    ensures small { result < 2 ^ 32 }
     ensures rows { result ≡ children_below (bit + 1) }
 {
     let rest = 5 - level(bit);
@@ -144,12 +145,12 @@ fn all_above(spot: u32) -> u32
 }
 
 /// The data bits of the node's prefixes inside a prefix of the node.
-pub fn data_cover_mask<W: Word>(depth: u32, key: W, len: u32) -> u32
+pub fn data_cover_mask<W: KeyBits>(depth: u32, key: W, len: u32) -> u32
     requires fits { W.number key < 2 ^ W.width }
     requires low { depth ≤ len }
     requires high { len ≤ depth + 4 }
     requires end { len ≤ W.width }
-    ensures mask { (bit : ℕ) → bit < 31 → depth + level_of bit ≤ W.width → bit_at result bit ≡ cond (covers W.width (prefix_net W.width (W.number key) len) (net_of_bit W.width depth (W.number key) bit)) 1 0 }
+    ensures mask { IsDataMask W.width depth result (covers_bit W.width depth (W.number key) len) }
     ensures small { result < 2 ^ 31 }
     ensures rows { result ≡ rows_below (data_bit_of W.width depth (W.number key) len + 1) }
 {
@@ -157,23 +158,24 @@ pub fn data_cover_mask<W: Word>(depth: u32, key: W, len: u32) -> u32
 }
 
 /// The children of the node inside a prefix of the node.
-pub fn child_cover_mask<W: Word>(depth: u32, key: W, len: u32) -> u32
+pub fn child_cover_mask<W: KeyBits>(depth: u32, key: W, len: u32) -> u32
     requires fits { W.number key < 2 ^ W.width }
     requires low { depth ≤ len }
     requires high { len ≤ depth + 4 }
     requires end { len ≤ W.width }
-    ensures mask { (child : ℕ) → child < 32 → depth + 5 ≤ W.width → bit_at result child ≡ cond (covers W.width (prefix_net W.width (W.number key) len) (child_at W.width depth (W.number key) child)) 1 0 }
+    ensures mask { IsChildMask W.width depth result (covers_child W.width depth (W.number key) len) }
+    ensures small { result < 2 ^ 32 }
     ensures rows { result ≡ children_below (data_bit_of W.width depth (W.number key) len + 1) }
 {
     child_cover_mask_for_bit(data_bit(depth, key, len))
 }
 
 /// The data bits of the node's prefixes that contain a prefix.
-pub fn data_lpm_mask<W: Word>(depth: u32, key: W, len: u32) -> u32
+pub fn data_lpm_mask<W: KeyBits>(depth: u32, key: W, len: u32) -> u32
     requires fits { W.number key < 2 ^ W.width }
     requires low { depth ≤ len }
     requires end { len ≤ W.width }
-    ensures mask { (bit : ℕ) → bit < 31 → bit_at result bit ≡ cond (covers W.width (net_of_bit W.width depth (W.number key) bit) (record { bits = W.number key; len = len })) 1 0 }
+    ensures mask { IsWholeMask result (bit_covers W.width depth (W.number key) len) }
     ensures small { result < 2 ^ 31 }
 {
     if len - depth < 5 {

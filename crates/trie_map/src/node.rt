@@ -7,17 +7,17 @@ mod shrink;
 
 ghost use Rattle.std.specs.Prelude.{◌≡◌, ℕ, ◌+◌, ◌-◌, ◌<◌, ◌≤◌, ◌^◌, min, length, count_ones};
 ghost use Rattle.std.specs.Int.{bit_at};
-ghost use Rattle.trie_map.specs.Forms.{node_form};
-ghost use Rattle.trie_model.specs.Heap.{bits_toward};
+ghost use Rattle.trie_map.specs.Shape.{node_shape, ItemsFit, ChildrenFit, HoldsItem, HoldsChild};
+ghost use Rattle.trie_model.specs.Spots.{bits_toward};
 ghost use Rattle.trie_model.specs.Puts.{HoldsAt};
 ghost use Rattle.trie_model.specs.Tries.{slot_of, Good, Full};
 
 use crate::masks::child_bit;
-use crate::prefix::Word;
-pub use grow::put;
+use crate::prefix::KeyBits;
+pub use grow::insert_below;
 pub use lend::{Deepest, Descent};
-pub use look::{find, longest, reach};
-pub use shrink::take;
+pub use look::{get_below, lpm_below, node_of};
+pub use shrink::remove_below;
 use std::alloc::Global;
 use std::marker::{Model, PhantomData};
 
@@ -101,41 +101,41 @@ impl<'a, T> Visited<'a, T> {
 
     /// The data bits of the node.
     pub fn data_bitmap(&self) -> u32
-        ensures { result ≡ node_form.marks self.now.node.now }
+        ensures { result ≡ node_shape.data_bits self.now.node.now }
     {
         self.node.data_bitmap
     }
 
     /// The bits of the node's children.
     pub fn child_bitmap(&self) -> u32
-        ensures { result ≡ node_form.kids self.now.node.now }
+        ensures { result ≡ node_shape.child_bits self.now.node.now }
     {
         self.node.child_bitmap
     }
 
     /// The item of a set data bit.
     pub fn item(&self, bit: u32) -> &'a T
-        requires compact { length (node_form.items self.now.node.now) ≡ count_ones (node_form.marks self.now.node.now) }
-        requires set { bit_at (node_form.marks self.now.node.now) bit ≡ 1 }
+        requires compact { ItemsFit self.now.node.now }
+        requires set { bit_at (node_shape.data_bits self.now.node.now) bit ≡ 1 }
         requires bit { bit < 32 }
-        ensures { HoldsAt (node_form.marks self.now.node.now) (node_form.items self.now.node.now) bit result.now }
+        ensures { HoldsItem self.now.node.now bit result.now }
     {
         item_at(self.node.data_bitmap, bit, &self.node.items)
     }
 
     /// The child of a set child bit, which isn't visited yet.
     pub fn child(&self, bit: u32) -> &'a Node<T>
-        requires compact { length (node_form.below self.now.node.now) ≡ count_ones (node_form.kids self.now.node.now) }
-        requires set { bit_at (node_form.kids self.now.node.now) bit ≡ 1 }
+        requires compact { ChildrenFit self.now.node.now }
+        requires set { bit_at (node_shape.child_bits self.now.node.now) bit ≡ 1 }
         requires bit { bit < 32 }
-        ensures { HoldsAt (node_form.kids self.now.node.now) (node_form.below self.now.node.now) bit result.now }
+        ensures { HoldsChild self.now.node.now bit result.now }
     {
         item_at(self.node.child_bitmap, bit, &self.node.children)
     }
 }
 
 /// The child on the way to a key.
-fn child_toward<W: Word>(depth: u32, key: W) -> u32
+fn child_toward<W: KeyBits>(depth: u32, key: W) -> u32
     requires fits { W.number key < 2 ^ W.width }
     requires depth { depth + 5 ≤ W.width }
     ensures bit { result ≡ bits_toward W.width depth 5 (W.number key) }
@@ -164,10 +164,10 @@ fn item_at<X>(bitmap: u32, bit: u32, items: &Vec<X>) -> &X
 
 /// A node with nothing.
 pub fn empty<T>(alloc: Global) -> Node<T>
-    ensures marks { node_form.marks result ≡ 0 }
-    ensures kids { node_form.kids result ≡ 0 }
-    ensures good { (w d k : ℕ) → Good node_form w k d result }
-    ensures full { (k : ℕ) → Full node_form k result }
+    ensures data_bits { node_shape.data_bits result ≡ 0 }
+    ensures child_bits { node_shape.child_bits result ≡ 0 }
+    ensures good { (w d k : ℕ) → Good node_shape w k d result }
+    ensures full { (k : ℕ) → Full node_shape k result }
 {
     Node {
         data_bitmap: 0,

@@ -1,9 +1,9 @@
 //! Prefixes of addresses, and the numbers that hold their bits.
 
-ghost use Rattle.std.specs.Prelude.{◌≡◌, ℕ, ◌+◌, ◌-◌, ◌*◌, ◌/◌, ◌^◌, ◌<◌, ◌≤◌, ◌↔◌, IsTrue, true};
+ghost use Rattle.std.specs.Prelude.{◌≡◌, ℕ, ◌+◌, ◌-◌, ◌*◌, ◌^◌, ◌<◌, ◌≤◌, ◌↔◌, IsTrue, true};
 ghost use Rattle.num_traits.specs.Laws.{bit_len};
-ghost use Rattle.trie_model.specs.Heap.{five_bits, prefix_net};
-ghost use Rattle.trie_model.specs.Nets.{Net, IsNet, masked, covers};
+ghost use Rattle.trie_model.specs.Spots.{five_bits, prefix_net};
+ghost use Rattle.trie_model.specs.Nets.{Net, IsCommonLen, IsNet, masked, covers, net_of};
 
 use num_traits::PrimInt;
 
@@ -21,7 +21,7 @@ pub fn mask_from_prefix_len<R: PrimInt>(len: u8) -> R
 
 /// A number of a fixed width, with what nodes and views do with it. It has no operators, so that
 /// code that is generic in it stands under few bounds.
-pub trait Word: Copy + Drop {
+pub trait KeyBits: Copy + Drop {
     /// The number itself.
     ghost number: { Self → ℕ };
 
@@ -45,7 +45,7 @@ pub trait Word: Copy + Drop {
         requires len { len ≤ width }
         ensures { number result ≡ masked width (number self) len };
 
-    /// The five bits behind the first `depth`. Past the end they are 0.
+    /// The five bits after the first `depth`. Past the end they are 0.
     fn five_bits(self, depth: u32) -> u32
         requires fits { number self < 2 ^ width }
         requires depth { depth ≤ width }
@@ -58,6 +58,10 @@ pub trait Word: Copy + Drop {
         requires bits { bits < 2 ^ count }
         ensures { number result ≡ masked width (number self) depth + bits * 2 ^ (width - (depth + count)) };
 
+    /// How many leading bits the numbers have in common.
+    fn common_bits(self, other: Self) -> u32
+        ensures { IsCommonLen width (number self) (number other) result };
+
     /// Whether the number is at most the other one.
     fn is_at_most(self, other: Self) -> bool
         ensures { IsTrue result ↔ (number self ≤ number other) };
@@ -65,8 +69,8 @@ pub trait Word: Copy + Drop {
 
 /// A prefix as nodes and views see it. `net` is the prefix without its host bits, `raw` the number
 /// with them.
-pub trait Place: Copy + Drop {
-    type Number: Word;
+pub trait PlainPrefix: Copy + Drop {
+    type Number: KeyBits;
 
     /// The prefix without host bits.
     ghost net: { Self → Net };
@@ -98,15 +102,21 @@ pub trait Place: Copy + Drop {
 
     /// The host bits are all that is dropped.
     ghost net_law: { (p : Self) → net p ≡ prefix_net Self.Number.width (raw p) (net p).len };
+
+    /// A prefix is its number and its length.
+    ghost one_law: { (p q : Self) → (net p).len ≡ (net q).len → raw p ≡ raw q → p ≡ q };
+
+    /// Each network is that of a prefix without host bits.
+    ghost net_onto: { (n : Net) → IsNet Self.Number.width n → (p : Self) × (net p ≡ n) × (raw p ≡ n.bits) };
 }
 
 /// A prefix of an address, as in the crate prefix-trie. Its length is at most `num_bits`.
-pub trait Prefix: Place<Number = Self::R> {
+pub trait Prefix: PlainPrefix<Number = Self::R> {
     type R: PrimInt;
 
     /// The number of the prefix, as it was given.
     fn repr(&self) -> Self::R
-        ensures { Self.R.Word.number result ≡ Self.raw self.now };
+        ensures { Self.R.KeyBits.number result ≡ Self.raw self.now };
 
     /// The length in bits.
     fn prefix_len(&self) -> u8
@@ -114,28 +124,41 @@ pub trait Prefix: Place<Number = Self::R> {
 
     /// The prefix of this number and length. The host bits are dropped.
     fn from_repr_len(repr: Self::R, len: u8) -> Self
-        requires fits { Self.R.Word.number repr < 2 ^ Self.R.Word.width }
-        requires len { len ≤ Self.R.Word.width }
-        ensures net { Self.net result ≡ prefix_net Self.R.Word.width (Self.R.Word.number repr) len }
+        requires fits { Self.R.KeyBits.number repr < 2 ^ Self.R.KeyBits.width }
+        requires len { len ≤ Self.R.KeyBits.width }
+        ensures net { Self.net result ≡ prefix_net Self.R.KeyBits.width (Self.R.KeyBits.number repr) len }
         ensures raw { Self.raw result ≡ (Self.net result).bits };
 
     /// The number without the host bits.
     fn mask(&self) -> Self::R
-        requires { (Self.net self.now).len ≤ Self.R.Word.width }
-        ensures { Self.R.Word.number result ≡ (Self.net self.now).bits };
+        requires { (Self.net self.now).len ≤ Self.R.KeyBits.width }
+        ensures { Self.R.KeyBits.number result ≡ (Self.net self.now).bits };
 
     /// The width of the number.
     fn num_bits() -> u32
-        ensures { result ≡ Self.R.Word.width };
+        ensures { result ≡ Self.R.KeyBits.width };
 
     /// Whether each address of the other prefix is one of this.
     fn contains(&self, other: &Self) -> bool
-        requires len { (Self.net self.now).len ≤ Self.R.Word.width }
-        requires other { (Self.net other.now).len ≤ Self.R.Word.width }
-        ensures { IsTrue result ↔ (covers Self.R.Word.width (Self.net self.now) (Self.net other.now) ≡ true) };
+        requires len { (Self.net self.now).len ≤ Self.R.KeyBits.width }
+        requires other { (Self.net other.now).len ≤ Self.R.KeyBits.width }
+        ensures { IsTrue result ↔ (covers Self.R.KeyBits.width (Self.net self.now) (Self.net other.now) ≡ true) };
 
     /// The number's bits are those of its primitive integer, and the widths agree.
-    ghost bits_law: { (x : Self.R) → Self.R.bits_of x ≡ Self.R.Word.number x };
+    ghost bits_law: { (x : Self.R) → Self.R.bits_of x ≡ Self.R.KeyBits.number x };
 
-    ghost width_law: { bit_len Self.R.FixedWidth.width ≡ Self.R.Word.width };
+    ghost width_law: { bit_len Self.R.FixedWidth.width ≡ Self.R.KeyBits.width };
+}
+
+/// Whether a prefix lies in a place.
+pub fn lies_in<W: KeyBits>(place: W, place_len: u32, key: W, len: u32) -> bool
+    requires fits { W.number key < 2 ^ W.width }
+    requires len { place_len ≤ W.width }
+    ensures { IsTrue result ↔ (covers W.width (net_of (W.number place) place_len) (net_of (W.number key) len) ≡ true) }
+{
+    if len < place_len {
+        return false;
+    }
+    let first = key.first_bits(place_len);
+    first.is_at_most(place) && place.is_at_most(first)
 }

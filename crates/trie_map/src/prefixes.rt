@@ -2,11 +2,11 @@
 
 ghost use Rattle.std.specs.Prelude.{refl};
 ghost use Rattle.std.proofs.Common.{lit≤};
-ghost use Rattle.trie_model.specs.Heap.{prefix_net};
+ghost use Rattle.trie_model.specs.Spots.{prefix_net};
 
-use crate::prefix::{Place, Prefix, Word};
+use crate::prefix::{KeyBits, PlainPrefix, Prefix};
 
-impl Word for u32 {
+impl KeyBits for u32 {
     ghost number = { λ x. x };
 
     ghost width = { 32 };
@@ -44,12 +44,16 @@ impl Word for u32 {
         first + (bits << (32 - (depth + count)))
     }
 
+    fn common_bits(self, other: u32) -> u32 {
+        (self ^ other).leading_zeros()
+    }
+
     fn is_at_most(self, other: u32) -> bool {
         self <= other
     }
 }
 
-impl Place for (u32, u8) {
+impl PlainPrefix for (u32, u8) {
     type Number = u32;
 
     ghost net = { λ p. prefix_net 32 p.0 p.1 };
@@ -73,6 +77,10 @@ impl Place for (u32, u8) {
     }
 
     ghost net_law = { λ p. refl };
+
+    ghost one_law = { λ p q len raw i. (raw i, len i) };
+
+    ghost net_onto = { λ n ok. ((n.bits, n.len), (λ i. record { bits = ok.no_rest i; len = n.len }), refl) };
 }
 
 impl Prefix for (u32, u8) {
@@ -87,7 +95,7 @@ impl Prefix for (u32, u8) {
     }
 
     fn from_repr_len(repr: u32, len: u8) -> (u32, u8) {
-        Place::from_number(repr, len)
+        PlainPrefix::from_number(repr, len)
     }
 
     fn mask(&self) -> u32 {
@@ -107,7 +115,7 @@ impl Prefix for (u32, u8) {
     ghost width_law = { refl };
 }
 
-impl Word for u64 {
+impl KeyBits for u64 {
     ghost number = { λ x. x };
 
     ghost width = { 64 };
@@ -145,12 +153,16 @@ impl Word for u64 {
         first + ((bits as u64) << (64 - (depth + count)))
     }
 
+    fn common_bits(self, other: u64) -> u32 {
+        (self ^ other).leading_zeros()
+    }
+
     fn is_at_most(self, other: u64) -> bool {
         self <= other
     }
 }
 
-impl Place for (u64, u8) {
+impl PlainPrefix for (u64, u8) {
     type Number = u64;
 
     ghost net = { λ p. prefix_net 64 p.0 p.1 };
@@ -174,6 +186,10 @@ impl Place for (u64, u8) {
     }
 
     ghost net_law = { λ p. refl };
+
+    ghost one_law = { λ p q len raw i. (raw i, len i) };
+
+    ghost net_onto = { λ n ok. ((n.bits, n.len), (λ i. record { bits = ok.no_rest i; len = n.len }), refl) };
 }
 
 impl Prefix for (u64, u8) {
@@ -188,7 +204,7 @@ impl Prefix for (u64, u8) {
     }
 
     fn from_repr_len(repr: u64, len: u8) -> (u64, u8) {
-        Place::from_number(repr, len)
+        PlainPrefix::from_number(repr, len)
     }
 
     fn mask(&self) -> u64 {
@@ -208,7 +224,7 @@ impl Prefix for (u64, u8) {
     ghost width_law = { refl };
 }
 
-impl Word for u128 {
+impl KeyBits for u128 {
     ghost number = { λ x. x };
 
     ghost width = { 128 };
@@ -246,12 +262,16 @@ impl Word for u128 {
         first + ((bits as u128) << (128 - (depth + count)))
     }
 
+    fn common_bits(self, other: u128) -> u32 {
+        (self ^ other).leading_zeros()
+    }
+
     fn is_at_most(self, other: u128) -> bool {
         self <= other
     }
 }
 
-impl Place for (u128, u8) {
+impl PlainPrefix for (u128, u8) {
     type Number = u128;
 
     ghost net = { λ p. prefix_net 128 p.0 p.1 };
@@ -275,6 +295,10 @@ impl Place for (u128, u8) {
     }
 
     ghost net_law = { λ p. refl };
+
+    ghost one_law = { λ p q len raw i. (raw i, len i) };
+
+    ghost net_onto = { λ n ok. ((n.bits, n.len), (λ i. record { bits = ok.no_rest i; len = n.len }), refl) };
 }
 
 impl Prefix for (u128, u8) {
@@ -289,7 +313,7 @@ impl Prefix for (u128, u8) {
     }
 
     fn from_repr_len(repr: u128, len: u8) -> (u128, u8) {
-        Place::from_number(repr, len)
+        PlainPrefix::from_number(repr, len)
     }
 
     fn mask(&self) -> u128 {

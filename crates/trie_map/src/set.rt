@@ -1,31 +1,32 @@
 //! A finite set of prefixes.
 
 ghost use Rattle.std.specs.Prelude.{◌≡◌, ◌↔◌, ◌+◌, ◌-◌, ◌^◌, ◌≤◌, [], ⊤, length, min, IsTrue, IsSome, IsNone, IfOk, IfErr, IfNone, IfSome, OnOk, OnErr, OnSome};
-ghost use Rattle.trie_map.specs.Walking.{CanWalk, IsFrugalWalk, ToCome};
-ghost use Rattle.trie_model.specs.Inside.{LiesIn, SomeIn};
+ghost use Rattle.trie_model.specs.Inside.{SomeIn};
 ghost use Rattle.trie_model.specs.Maps.{inserted, removed, value_at};
 ghost use Rattle.trie_model.specs.Nets.{Net};
-ghost use Rattle.trie_model.specs.Walks.{From, IsListOf, Within, pairs_from};
+ghost use Rattle.trie_model.specs.Views.{Shows, root_place};
+ghost use Rattle.trie_model.proofs.Places.{show_same};
+ghost use Rattle.trie_model.specs.Walks.{Within};
+ghost use Rattle.trie_map.specs.TrieRefs.{ref_value, CanWalkRef, IsFrugalRefWalk, HasPairsOf, HasPairsIn, WalksFrom, ListsFrom, IsRefAt, ListsAll};
 
 use crate::map::PrefixMap;
 use crate::node::Steps;
-use crate::prefix::Place;
-use crate::refs::TrieRef;
-use crate::try_clone::TryClone;
+use crate::prefix::PlainPrefix;
+use crate::trie_ref::TrieRef;
 use crate::view::{AsView, TrieView};
 use crate::walk::ViewIter;
-use nl_core::NoMemory;
+use nl_core::{NoMemory, TryClone};
 use std::alloc::Global;
 use std::marker::Model;
 
 /// A finite set of prefixes, as in the crate prefix-trie: a map to nothing. Contracts see the list of
 /// its prefixes, each with `()`, in order.
 #[derive(Drop)]
-pub struct PrefixSet<P: Place> {
+pub struct PrefixSet<P: PlainPrefix> {
     map: PrefixMap<P, ()>,
 }
 
-impl<P: Place> Model for PrefixSet<P> {
+impl<P: PlainPrefix> Model for PrefixSet<P> {
     ghost use Rattle.std.specs.Prelude.{List};
     ghost use Rattle.trie_model.specs.Nets.{Net};
 
@@ -34,7 +35,7 @@ impl<P: Place> Model for PrefixSet<P> {
     ghost view = { λ s. s.map };
 }
 
-impl<P: Place> PrefixSet<P> {
+impl<P: PlainPrefix> PrefixSet<P> {
     /// The set with no prefix.
     pub fn new(alloc: Global) -> Self
         ensures { result ≡ [] }
@@ -69,8 +70,8 @@ impl<P: Place> PrefixSet<P> {
     /// The view of the whole set. It visits the root, and takes no memory.
     pub fn view_counted<'a, L>(&'a self, steps: &mut Steps<L>) -> TrieRef<'a, P, ()>
         ensures usable { ⟦<TrieRef<'a, P, ()> as TrieView<'a>>⟧.valid result }
-        ensures place { (⟦<TrieRef<'a, P, ()> as TrieView<'a>>⟧.told result).place ≡ record { bits = 0; len = 0 } }
-        ensures pairs { (n : Net) (x : Unit {0}) → (⟦<TrieRef<'a, P, ()> as TrieView<'a>>⟧.told result).at n x ↔ Within self.now n x }
+        ensures place { IsRefAt P.Number.number P.Number.width root_place result }
+        ensures pairs { HasPairsOf P.Number.number P.Number.width self.now result }
         ensures counted { steps.new ≡ min (steps.old + 1) (2 ^ 64 - 1) }
     {
         self.map.view_counted(steps)
@@ -79,8 +80,8 @@ impl<P: Place> PrefixSet<P> {
     /// The view of the whole set.
     pub fn view<'a>(&'a self) -> TrieRef<'a, P, ()>
         ensures usable { ⟦<TrieRef<'a, P, ()> as TrieView<'a>>⟧.valid result }
-        ensures place { (⟦<TrieRef<'a, P, ()> as TrieView<'a>>⟧.told result).place ≡ record { bits = 0; len = 0 } }
-        ensures pairs { (n : Net) (x : Unit {0}) → (⟦<TrieRef<'a, P, ()> as TrieView<'a>>⟧.told result).at n x ↔ Within self.now n x }
+        ensures place { IsRefAt P.Number.number P.Number.width root_place result }
+        ensures pairs { HasPairsOf P.Number.number P.Number.width self.now result }
     {
         self.map.view()
     }
@@ -92,33 +93,33 @@ impl<P: Place> PrefixSet<P> {
         ensures found { OnSome result (SomeIn P.Number.width (P.net prefix.now) self.now) }
         ensures none { IfNone result (¬ SomeIn P.Number.width (P.net prefix.now) self.now) }
         ensures usable { IfSome result (λ view. ⟦<TrieRef<'a, P, ()> as TrieView<'a>>⟧.valid view) }
-        ensures place { IfSome result (λ view. (⟦<TrieRef<'a, P, ()> as TrieView<'a>>⟧.told view).place ≡ P.net prefix.now) }
-        ensures pairs { IfSome result (λ view. (n : Net) (x : Unit {0}) → (⟦<TrieRef<'a, P, ()> as TrieView<'a>>⟧.told view).at n x ↔ LiesIn P.Number.width (P.net prefix.now) self.now n x) }
+        ensures place { IfSome result (IsRefAt P.Number.number P.Number.width (P.net prefix.now)) }
+        ensures pairs { IfSome result (HasPairsIn P.Number.number P.Number.width (P.net prefix.now) self.now) }
     {
         self.map.view_at(prefix)
     }
 
     /// The walk over the prefixes, in order.
     pub fn iter<'a>(&'a self) -> Result<ViewIter<TrieRef<'a, P, ()>>, NoMemory>
-        ensures usable { IfOk result (λ walk. CanWalk ⟦<TrieRef<'a, P, ()> as TrieView<'a>>⟧.valid ⟦<TrieRef<'a, P, ()> as TrieView<'a>>⟧.told P.Number.width walk) }
-        ensures frugal { IfOk result (λ walk. IsFrugalWalk ⟦<TrieRef<'a, P, ()> as TrieView<'a>>⟧.told walk) }
-        ensures list { IfOk result (λ walk. IsListOf P.Number.width (ToCome ⟦<TrieRef<'a, P, ()> as TrieView<'a>>⟧.told P.Number.width walk) self.now) }
+        ensures usable { IfOk result (CanWalkRef P.Number.number P.Number.width) }
+        ensures frugal { IfOk result (IsFrugalRefWalk P.Number.number P.Number.width) }
+        ensures list { IfOk result (ListsAll P.Number.number P.Number.width self.now) }
     {
         self.map.iter()
     }
 
     /// The walk over the prefixes from a prefix on: the prefix itself too where `inclusive`, and
-    /// those that come behind it in the order.
+    /// those that come after it in the order.
     pub fn iter_from<'a>(
         &'a self,
         prefix: &P,
         inclusive: bool,
     ) -> Result<ViewIter<TrieRef<'a, P, ()>>, NoMemory>
         requires { (P.net prefix.now).len ≤ P.Number.width }
-        ensures usable { IfOk result (λ walk. CanWalk ⟦<TrieRef<'a, P, ()> as TrieView<'a>>⟧.valid ⟦<TrieRef<'a, P, ()> as TrieView<'a>>⟧.told P.Number.width walk) }
-        ensures frugal { IfOk result (λ walk. IsFrugalWalk ⟦<TrieRef<'a, P, ()> as TrieView<'a>>⟧.told walk) }
-        ensures rest { IfOk result (λ walk. (n : Net) (x : Unit {0}) → ToCome ⟦<TrieRef<'a, P, ()> as TrieView<'a>>⟧.told P.Number.width walk n x ↔ (Within self.now n x × From P.Number.width inclusive (P.net prefix.now) n)) }
-        ensures list { IfOk result (λ walk. IsListOf P.Number.width (ToCome ⟦<TrieRef<'a, P, ()> as TrieView<'a>>⟧.told P.Number.width walk) (pairs_from P.Number.width inclusive (P.net prefix.now) self.now)) }
+        ensures usable { IfOk result (CanWalkRef P.Number.number P.Number.width) }
+        ensures frugal { IfOk result (IsFrugalRefWalk P.Number.number P.Number.width) }
+        ensures rest { IfOk result (WalksFrom P.Number.number P.Number.width inclusive (P.net prefix.now) self.now) }
+        ensures list { IfOk result (ListsFrom P.Number.number P.Number.width inclusive (P.net prefix.now) self.now) }
     {
         self.map.iter_from(prefix, inclusive)
     }
@@ -147,21 +148,23 @@ impl<P: Place> PrefixSet<P> {
     }
 }
 
-impl<P: Place> TryClone for PrefixSet<P> {
+impl<P: PlainPrefix> TryClone for PrefixSet<P> {
     fn clone_with(&self) -> Result<Self, NoMemory> {
         let map = self.map.clone_with(|_| Ok(()))?;
         Ok(PrefixSet { map })
     }
 }
 
-impl<'a, P: Place> AsView<'a> for &'a PrefixSet<P> {
+impl<'a, P: PlainPrefix> AsView<'a> for &'a PrefixSet<P> {
     type View = TrieRef<'a, P, ()>;
 
     ghost can_view = { λ s. ⊤ };
 
-    ghost stands_for = { λ view s. ((⟦<TrieRef<'a, P, ()> as TrieView<'a>>⟧.told view).place ≡ record { bits = 0; len = 0 }) × ((n : Net) (x : Unit {0}) → (⟦<TrieRef<'a, P, ()> as TrieView<'a>>⟧.told view).at n x ↔ Within s.now n x) };
+    ghost stands_for = { λ view s. Shows (ref_value P.Number.number P.Number.width view) root_place (Within s.now) };
 
     fn view(self) -> TrieRef<'a, P, ()> {
         self.view_counted(&mut Steps::start())
     }
+
+    ghost stands_law = { λ a b s. show_same (ref_value P.Number.number P.Number.width) a b root_place (Within s.now) };
 }

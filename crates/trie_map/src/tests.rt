@@ -4,9 +4,10 @@ ghost use Rattle.std.specs.Prelude.{◌≡◌, ◌≤◌, IsSome, None};
 ghost use Rattle.trie_model.specs.Maps.{inserted, value_at};
 
 use crate::{
-    AsView, CloneView, Place, Prefix, PrefixMap, PrefixSet, Steps, TrieView, TryClone, child_bit,
-    child_cover_mask, child_cover_mask_for_bit, data_bit, data_cover_mask, data_cover_mask_for_bit,
-    data_lpm_mask, extend_repr, mask_from_prefix_len, reconstruct_prefix, walk_gives_the_list,
+    AsView, CloneView, KeyBits, PlainPrefix, Prefix, PrefixMap, PrefixSet, Steps, TrieView,
+    TryClone, child_bit, child_cover_mask, child_cover_mask_for_bit, data_bit, data_cover_mask,
+    data_cover_mask_for_bit, data_lpm_mask, extend_repr, lies_in, mask_from_prefix_len,
+    reconstruct_prefix, walk_gives_the_list,
 };
 use std::process::Abort;
 use std::test::Fail;
@@ -42,11 +43,17 @@ fn prefixes_of_three_widths(rt: HostRuntime) -> Result<(), Fail> {
     assert_eq!(rt; <(u64, u8) as Prefix>::num_bits(), 64);
     assert!(rt; (7u64, 0u8).contains(&(9, 64)));
     assert!(rt; !(1u128 << 127, 1u8).contains(&(1, 128)));
+    assert!(rt; lies_in(0x0A00_0000u32, 8, 0x0A01_0203, 32));
+    assert!(rt; !lies_in(0x0A00_0000u32, 8, 0x0B01_0203, 32));
+    assert!(rt; !lies_in(0x0A00_0000u32, 8, 0x0A00_0000, 7));
+    assert_eq!(rt; 0x0A01_0203u32.common_bits(0x0A01_8203), 16);
+    assert_eq!(rt; 5u64.common_bits(5), 64);
+    assert_eq!(rt; 1u128.common_bits(1 << 127), 0);
     Ok(())
 }
 
 /// The longest entry that contains a prefix.
-fn best<P: Place>(map: &PrefixMap<P, u32>, prefix: P) -> Option<(P, u32)>
+fn best<P: PlainPrefix>(map: &PrefixMap<P, u32>, prefix: P) -> Option<(P, u32)>
     requires { (P.net prefix).len ≤ P.Number.width }
 {
     map.get_lpm(&prefix).map(|found| (found.0, *found.1))
@@ -193,7 +200,7 @@ fn clones(rt: HostRuntime) -> Result<(), Fail> {
 }
 
 /// Writes the value of a prefix that has one: what a caller of `get_mut` knows.
-fn overwrite<P: Place, T: Drop>(map: &mut PrefixMap<P, T>, prefix: &P, value: T)
+fn overwrite<P: PlainPrefix, T: Drop>(map: &mut PrefixMap<P, T>, prefix: &P, value: T)
     requires { (P.net prefix.now).len ≤ P.Number.width }
     ensures there { IsSome (value_at map.old (P.net prefix.now)) → map.new ≡ inserted P.Number.width map.old (P.net prefix.now) value }
     ensures not_there { value_at map.old (P.net prefix.now) ≡ None → map.new ≡ map.old }

@@ -3,17 +3,16 @@
 ghost use Rattle.std.specs.Prelude.{◌≡◌, ℕ, ◌+◌, ◌≤◌, IsTrue, IfOk, IsOk};
 ghost use Rattle.std.specs.Result.{OnOk};
 ghost use Rattle.std.specs.Int.{bit_at};
-ghost use Rattle.trie_model.specs.Nets.{Net, masked};
-ghost use Rattle.trie_model.specs.Views.{Told, IsView, TookData, TookChild, IsChild, CanMove, Moved, depth_at, data_net};
+ghost use Rattle.trie_model.specs.Views.{ViewValue, ShowSame, IsView, TookData, TookChild, IsChild, depth_at, HasAtBit, CanMoveTo, MoveTo};
 
 use crate::node::Steps;
-use crate::prefix::Place;
+use crate::prefix::PlainPrefix;
 use nl_core::NoMemory;
 
 /// A place in a trie, and the pairs that a view has there, as in the crate prefix-trie. A getter
 /// takes its pairs out of the view.
 pub trait TrieView<'a>: Sized + Drop {
-    type P: Place;
+    type P: PlainPrefix;
 
     type T: Drop;
 
@@ -22,11 +21,11 @@ pub trait TrieView<'a>: Sized + Drop {
 
     ghost item: { Self.T → Item };
 
-    /// Whether the view may be used. After want of memory nothing is said of it.
+    /// Whether the view may be used. After a call that ran out of memory nothing is said of it.
     ghost valid: { Self → Type 0 };
 
     /// The place, the bitmaps and the pairs.
-    ghost told: { Self → Told Item };
+    ghost told: { Self → ViewValue Item };
 
     /// How many nodes a step down reads at most.
     ghost cost: { ℕ };
@@ -37,7 +36,7 @@ pub trait TrieView<'a>: Sized + Drop {
         ensures { result ≡ depth_at (told self.now).place.len };
 
     /// The bits of the place.
-    fn key(&self) -> <Self::P as Place>::Number
+    fn key(&self) -> <Self::P as PlainPrefix>::Number
         requires { valid self.now }
         ensures { Self.P.Number.number result ≡ (told self.now).place.bits };
 
@@ -60,7 +59,7 @@ pub trait TrieView<'a>: Sized + Drop {
     fn get_data(&mut self, bit: u32) -> Result<Self::T, NoMemory>
         requires usable { valid self.old }
         requires set { bit_at (told self.old).data_bits bit ≡ 1 }
-        ensures data { IfOk result (λ x. (told self.old).at (data_net Self.P.Number.width (told self.old).place bit) (item x)) }
+        ensures data { IfOk result (λ x. HasAtBit Self.P.Number.width bit (told self.old) (item x)) }
         ensures usable { OnOk result (valid self.new) }
         ensures rest { OnOk result (TookData Self.P.Number.width bit (told self.old) (told self.new)) }
         ensures frugal { IsTrue (told self.old).frugal → IsOk result };
@@ -77,11 +76,11 @@ pub trait TrieView<'a>: Sized + Drop {
         ensures frugal { IsTrue (told self.old).frugal → IsOk result };
 
     /// Narrows the view to a place inside its own, in the same node.
-    fn reposition(&mut self, key: <Self::P as Place>::Number, prefix_len: u32)
+    fn reposition(&mut self, key: <Self::P as PlainPrefix>::Number, prefix_len: u32)
         requires usable { valid self.old }
-        requires place { CanMove Self.P.Number.width (told self.old).place (record { bits = Self.P.Number.number key; len = prefix_len }) }
+        requires place { CanMoveTo Self.P.Number.width (told self.old) (Self.P.Number.number key) prefix_len }
         ensures usable { valid self.new }
-        ensures moved { Moved Self.P.Number.width (record { bits = Self.P.Number.number key; len = prefix_len }) (told self.old) (told self.new) };
+        ensures moved { MoveTo Self.P.Number.width (Self.P.Number.number key) prefix_len told self.old self.new };
 
     /// Whether the view takes no memory.
     fn frugal(&self) -> bool
@@ -90,11 +89,15 @@ pub trait TrieView<'a>: Sized + Drop {
 
     /// Every view keeps the laws.
     ghost laws: { (v : Self) → valid v → IsView Self.P.Number.width (told v) };
+
+    /// What contracts see of an item is seen of some item.
+    ghost onto: { (x : Item) → (t : Self.T) × (item t ≡ x) };
 }
 
 /// A view that can be had again.
 pub trait CloneView<'a>: TrieView<'a> {
-    /// An equal view, or want of memory. A frugal view takes none.
+    /// An equal view, or out of memory. A frugal view takes none. A view that keeps a cache holds it in
+    /// a type with a model of its own, so that a copy is equal whatever its cache holds.
     fn clone_view(&self) -> Result<Self, NoMemory>
         ensures equal { IfOk result (λ copy. copy ≡ self.now) }
         ensures frugal { IsTrue (Self.told self.now).frugal → IsOk result };
@@ -115,4 +118,7 @@ pub trait AsView<'a>: Sized {
         requires { can_view self }
         ensures usable { Self.View.valid result }
         ensures stands { stands_for result self };
+
+    /// The views that stand for one value are at one place and have the same pairs.
+    ghost stands_law: { (a b : Self.View) (v : Self) → stands_for a v → stands_for b v → ShowSame (Self.View.told a) (Self.View.told b) };
 }

@@ -1,16 +1,17 @@
 //! The walk over a view, which gives its pairs in the order of their prefixes.
 
-ghost use Rattle.std.specs.Prelude.{◌≡◌, ◌↔◌, ℕ, ◌+◌, ◌*◌, ◌/◌, ◌^◌, ◌<◌, ◌≤◌, ◌⊎◌, ◌++◌, ◌∷◌, [], length, vec_capacity, IfNone, IfOk, IfSome, IsNone, IsOk, IsTrue, List, true, cond};
+ghost use Rattle.std.specs.Prelude.{◌≡◌, ◌+◌, ◌*◌, ◌/◌, ◌<◌, ◌≤◌, ◌++◌, ◌∷◌, [], length, vec_capacity, IfNone, IfOk, IfSome, IsNone, IsOk, IsTrue, true, cond};
 ghost use Rattle.std.specs.Result.{OnErr, OnOk};
-ghost use Rattle.trie_map.specs.Moves.{StepOf, MoveOf, Lessens};
-ghost use Rattle.trie_map.specs.Walking.{CanWalk, IsFrugalWalk, IsOver, NextOf, TakesFirst, ToCome, work_left};
-ghost use Rattle.trie_model.specs.Heap.{next_spot, order_key};
-ghost use Rattle.trie_model.specs.Nets.{Net, IsNet, covers};
-ghost use Rattle.trie_model.specs.Walks.{AllFrugal, From, IsListOf, Left, Roomy, WalkOk, rest, work};
+ghost use Rattle.trie_map.specs.Moves.{StepOf, StackMoves, StackLessens};
+ghost use Rattle.trie_map.specs.Walking.{CanWalk, IsFrugalWalk, IsOver, NextOf, ToCome, StackOk, StackLeft, StackHasRoom, AreFrugal, stack_work, StackGains, StackIsFrom, WalksOn, TakesFirstOf, ComesFrom};
+ghost use Rattle.trie_model.specs.Spots.{next_spot};
+ghost use Rattle.trie_model.specs.Nets.{IsNet, covers, net_of};
+ghost use Rattle.trie_model.specs.Walks.{rest, AllBefore};
+ghost use Rattle.trie_model.specs.Views.{SamePairs};
 
 use crate::masks::{child_bit, data_bit, reconstruct_prefix};
 use crate::node::{Start, Steps};
-use crate::prefix::{Place, Word};
+use crate::prefix::{KeyBits, PlainPrefix, lies_in};
 use crate::view::TrieView;
 use nl_core::NoMemory;
 use std::alloc::Global;
@@ -24,7 +25,7 @@ enum Step<V, T> {
     Child(u32, V),
 }
 
-/// The spot after this one, or 64. What lies inside a prefix comes right behind it.
+/// The spot after this one, or 64. What lies inside a prefix comes right after it.
 fn next_spot(spot: u32) -> u32
     requires first { 1 ≤ spot }
     requires last { spot < 64 }
@@ -63,7 +64,7 @@ fn first_spot(spot: u32, inclusive: bool) -> u32
 }
 
 /// Takes what stands at the spot out of the view.
-fn take<'a, V: TrieView<'a>, S>(
+fn take_at_spot<'a, V: TrieView<'a>, S>(
     view: &mut V,
     spot: u32,
     steps: &mut Steps<S>,
@@ -107,7 +108,7 @@ enum Move<P, T> {
 }
 
 /// Puts a level on the stack, where there is room.
-fn put<V: Drop>(levels: &mut Vec<Level<V>>, level: Level<V>)
+fn push_level<V: Drop>(levels: &mut Vec<Level<V>>, level: Level<V>)
     requires { length levels.old.items < vec_capacity levels.old }
     ensures items { levels.new.items ≡ levels.old.items ++ level ∷ [] }
     ensures capacity { vec_capacity levels.old ≤ vec_capacity levels.new }
@@ -120,16 +121,16 @@ fn advance<'a, V: TrieView<'a>, S>(
     levels: &mut Vec<Level<V>>,
     steps: &mut Steps<S>,
 ) -> Result<Move<V::P, V::T>, NoMemory>
-    requires usable { WalkOk (λ l. V.valid l.view) (λ l. rest V.P.Number.width (V.told l.view) l.spot) (λ l. l.spot) V.P.Number.width levels.old.items }
-    requires room { Roomy V.P.Number.width (λ l. V.told l.view) levels.old.items (vec_capacity levels.old) }
-    ensures usable { OnOk result (WalkOk (λ l. V.valid l.view) (λ l. rest V.P.Number.width (V.told l.view) l.spot) (λ l. l.spot) V.P.Number.width levels.new.items) }
-    ensures moved { IfOk result (λ m. MoveOf (λ l. rest V.P.Number.width (V.told l.view) l.spot) V.item V.P.net V.P.raw V.P.Number.width levels.old.items levels.new.items m) }
-    ensures room { OnOk result (Roomy V.P.Number.width (λ l. V.told l.view) levels.new.items (vec_capacity levels.new)) }
+    requires usable { StackOk V.valid V.told V.P.Number.width levels.old }
+    requires room { StackHasRoom V.told V.P.Number.width levels.old }
+    ensures usable { OnOk result (StackOk V.valid V.told V.P.Number.width levels.new) }
+    ensures moved { IfOk result (StackMoves V.told V.item V.P.net V.P.raw V.P.Number.width levels.old levels.new) }
+    ensures room { OnOk result (StackHasRoom V.told V.P.Number.width levels.new) }
     ensures capacity { vec_capacity levels.old ≤ vec_capacity levels.new }
-    ensures frugal { AllFrugal (λ l. V.told l.view) levels.old.items → IsOk result }
-    ensures stays { AllFrugal (λ l. V.told l.view) levels.old.items → OnOk result (AllFrugal (λ l. V.told l.view) levels.new.items) }
-    ensures less { IfOk result (λ m. Lessens (λ l. V.told l.view) (λ l. l.spot) V.P.Number.width levels.old.items levels.new.items m) }
-    ensures busy { OnErr result (0 < work V.P.Number.width (λ l. V.told l.view) (λ l. l.spot) levels.old.items) }
+    ensures frugal { AreFrugal V.told levels.old → IsOk result }
+    ensures stays { AreFrugal V.told levels.old → OnOk result (AreFrugal V.told levels.new) }
+    ensures less { IfOk result (StackLessens V.told V.P.Number.width levels.old levels.new) }
+    ensures busy { OnErr result (0 < stack_work V.told V.P.Number.width levels.old) }
 {
     let Some(mut level) = levels.pop() else {
         return Ok(Move::End);
@@ -141,19 +142,19 @@ fn advance<'a, V: TrieView<'a>, S>(
     let depth = level.view.depth();
     let key = level.view.key();
     level.spot = next_spot(spot);
-    match take(&mut level.view, spot, steps)? {
+    match take_at_spot(&mut level.view, spot, steps)? {
         Step::Nothing => {
-            put(levels, level);
+            push_level(levels, level);
             Ok(Move::On)
         }
         Step::Item(bit, item) => {
             let prefix = reconstruct_prefix(depth, key, bit);
-            put(levels, level);
+            push_level(levels, level);
             Ok(Move::Found(prefix, item))
         }
         Step::Child(_, child) => {
-            put(levels, level);
-            put(
+            push_level(levels, level);
+            push_level(
                 levels,
                 Level {
                     view: child,
@@ -165,79 +166,66 @@ fn advance<'a, V: TrieView<'a>, S>(
     }
 }
 
-/// Puts the levels on the way down to a prefix on the stack, each at the first spot that comes behind
+/// Puts the levels on the way down to a prefix on the stack, each at the first spot that comes after
 /// the prefix.
 fn descend<'a, V: TrieView<'a>, S>(
     levels: &mut Vec<Level<V>>,
     mut view: V,
-    key: <V::P as Place>::Number,
+    key: <V::P as PlainPrefix>::Number,
     len: u32,
     inclusive: bool,
     steps: &mut Steps<S>,
 ) -> Result<(), NoMemory>
     requires usable { V.valid view }
-    requires net { IsNet V.P.Number.width (record { bits = V.P.Number.number key; len = len }) }
-    requires inside { covers V.P.Number.width (V.told view).place (record { bits = V.P.Number.number key; len = len }) ≡ true }
-    requires stack { WalkOk (λ l. V.valid l.view) (λ l. rest V.P.Number.width (V.told l.view) l.spot) (λ l. l.spot) V.P.Number.width levels.old.items }
-    requires first { (n m : Net) (x y : V.Item) → (V.told view).at n x → Left (λ l. rest V.P.Number.width (V.told l.view) l.spot) levels.old.items m y → order_key V.P.Number.width n < order_key V.P.Number.width m }
-    requires room { Roomy V.P.Number.width (λ l. V.told l.view) levels.old.items (vec_capacity levels.old) }
+    requires net { IsNet V.P.Number.width (net_of (V.P.Number.number key) len) }
+    requires inside { covers V.P.Number.width (V.told view).place (net_of (V.P.Number.number key) len) ≡ true }
+    requires stack { StackOk V.valid V.told V.P.Number.width levels.old }
+    requires first { AllBefore V.P.Number.width (V.told view).at (StackLeft V.told V.P.Number.width levels.old) }
+    requires room { StackHasRoom V.told V.P.Number.width levels.old }
     requires deep { 5 * length levels.old.items ≤ (V.told view).place.len }
-    ensures usable { OnOk result (WalkOk (λ l. V.valid l.view) (λ l. rest V.P.Number.width (V.told l.view) l.spot) (λ l. l.spot) V.P.Number.width levels.new.items) }
-    ensures room { OnOk result (Roomy V.P.Number.width (λ l. V.told l.view) levels.new.items (vec_capacity levels.new)) }
-    ensures left { OnOk result ((n : Net) (x : V.Item) → Left (λ l. rest V.P.Number.width (V.told l.view) l.spot) levels.new.items n x ↔ (((V.told view).at n x × From V.P.Number.width inclusive (record { bits = V.P.Number.number key; len = len }) n) ⊎ Left (λ l. rest V.P.Number.width (V.told l.view) l.spot) levels.old.items n x)) }
+    ensures usable { OnOk result (StackOk V.valid V.told V.P.Number.width levels.new) }
+    ensures room { OnOk result (StackHasRoom V.told V.P.Number.width levels.new) }
+    ensures left { OnOk result (StackGains V.told V.P.Number.width inclusive (net_of (V.P.Number.number key) len) view levels.old levels.new) }
     ensures frugal { IsTrue (V.told view).frugal → IsOk result }
-    ensures stays { AllFrugal (λ l. V.told l.view) levels.old.items → IsTrue (V.told view).frugal → OnOk result (AllFrugal (λ l. V.told l.view) levels.new.items) }
+    ensures stays { AreFrugal V.told levels.old → IsTrue (V.told view).frugal → OnOk result (AreFrugal V.told levels.new) }
 {
     'down: loop {
         let depth = view.depth();
         if len - depth < 5 {
             let spot = first_spot(data_bit(depth, key, len) + 1, inclusive);
-            put(levels, Level { view, spot });
+            push_level(levels, Level { view, spot });
             return Ok(());
         }
         let bit = child_bit(depth, key);
         let spot = next_spot(32 + bit);
         if view.child_bitmap() >> bit & 1 == 0 {
-            put(levels, Level { view, spot });
+            push_level(levels, Level { view, spot });
             return Ok(());
         }
         let child = view.get_child(bit, steps)?;
-        put(levels, Level { view, spot });
+        push_level(levels, Level { view, spot });
         view = child;
     }
-}
-
-/// Whether a prefix lies in a place.
-fn lies_in<W: Word>(place: W, place_len: u32, key: W, len: u32) -> bool
-    requires fits { W.number key < 2 ^ W.width }
-    requires len { place_len ≤ W.width }
-    ensures { IsTrue result ↔ (covers W.width (record { bits = W.number place; len = place_len }) (record { bits = W.number key; len = len }) ≡ true) }
-{
-    if len < place_len {
-        return false;
-    }
-    let first = key.first_bits(place_len);
-    first.is_at_most(place) && place.is_at_most(first)
 }
 
 /// Puts on an empty stack what a view has from a prefix on.
 fn enter<'a, V: TrieView<'a>, S>(
     levels: &mut Vec<Level<V>>,
     view: V,
-    key: <V::P as Place>::Number,
+    key: <V::P as PlainPrefix>::Number,
     len: u32,
     inclusive: bool,
     steps: &mut Steps<S>,
 ) -> Result<(), NoMemory>
     requires usable { V.valid view }
-    requires net { IsNet V.P.Number.width (record { bits = V.P.Number.number key; len = len }) }
+    requires net { IsNet V.P.Number.width (net_of (V.P.Number.number key) len) }
     requires empty { levels.old.items ≡ [] }
     requires room { V.P.Number.width / 5 + 1 ≤ vec_capacity levels.old }
-    ensures usable { OnOk result (WalkOk (λ l. V.valid l.view) (λ l. rest V.P.Number.width (V.told l.view) l.spot) (λ l. l.spot) V.P.Number.width levels.new.items) }
-    ensures room { OnOk result (Roomy V.P.Number.width (λ l. V.told l.view) levels.new.items (vec_capacity levels.new)) }
-    ensures left { OnOk result ((n : Net) (x : V.Item) → Left (λ l. rest V.P.Number.width (V.told l.view) l.spot) levels.new.items n x ↔ ((V.told view).at n x × From V.P.Number.width inclusive (record { bits = V.P.Number.number key; len = len }) n)) }
+    ensures usable { OnOk result (StackOk V.valid V.told V.P.Number.width levels.new) }
+    ensures room { OnOk result (StackHasRoom V.told V.P.Number.width levels.new) }
+    ensures left { OnOk result (StackIsFrom V.told V.P.Number.width inclusive (net_of (V.P.Number.number key) len) view levels.new) }
     ensures frugal { IsTrue (V.told view).frugal → IsOk result }
-    ensures stays { IsTrue (V.told view).frugal → OnOk result (AllFrugal (λ l. V.told l.view) levels.new.items) }
+    ensures stays { IsTrue (V.told view).frugal → OnOk result (AreFrugal V.told levels.new) }
 {
     let place = view.key();
     if lies_in(place, view.prefix_len(), key, len) {
@@ -246,7 +234,7 @@ fn enter<'a, V: TrieView<'a>, S>(
     if !key.is_at_most(place) {
         return Ok(());
     }
-    put(levels, Level { view, spot: 1 });
+    push_level(levels, Level { view, spot: 1 });
     Ok(())
 }
 
@@ -263,13 +251,13 @@ impl<'a, V: TrieView<'a>> ViewIter<V> {
         requires { V.valid view }
         ensures usable { IfOk result (λ walk. CanWalk V.valid V.told V.P.Number.width walk) }
         ensures frugal { IfOk result (λ walk. IsTrue (V.told view).frugal → IsFrugalWalk V.told walk) }
-        ensures whole { IfOk result (λ walk. (n : Net) (x : V.Item) → ToCome V.told V.P.Number.width walk n x ↔ (V.told view).at n x) }
+        ensures whole { IfOk result (λ walk. SamePairs (ToCome V.told V.P.Number.width walk) (V.told view).at) }
     {
         let mut levels = Vec::with_capacity(
             alloc,
-            (<V::P as Place>::Number::bits() / 5 + 1) as usize,
+            (<V::P as PlainPrefix>::Number::bits() / 5 + 1) as usize,
         )?;
-        put(&mut levels, Level { view, spot: 1 });
+        push_level(&mut levels, Level { view, spot: 1 });
         Ok(ViewIter {
             levels,
             steps: Steps::start(),
@@ -277,7 +265,7 @@ impl<'a, V: TrieView<'a>> ViewIter<V> {
     }
 
     /// The walk over what a view has from a prefix on: the prefix itself too where `inclusive`, and what
-    /// comes behind it in the order. It takes the room that the walk needs.
+    /// comes after it in the order. It takes the room that the walk needs.
     pub fn starting(
         alloc: Global,
         view: V,
@@ -288,11 +276,11 @@ impl<'a, V: TrieView<'a>> ViewIter<V> {
         requires len { (V.P.net prefix.now).len ≤ V.P.Number.width }
         ensures usable { IfOk result (λ walk. CanWalk V.valid V.told V.P.Number.width walk) }
         ensures frugal { IfOk result (λ walk. IsTrue (V.told view).frugal → IsFrugalWalk V.told walk) }
-        ensures rest { IfOk result (λ walk. (n : Net) (x : V.Item) → ToCome V.told V.P.Number.width walk n x ↔ ((V.told view).at n x × From V.P.Number.width inclusive (V.P.net prefix.now) n)) }
+        ensures rest { IfOk result (ComesFrom V.told V.P.Number.width inclusive (V.P.net prefix.now) view) }
     {
         let mut levels = Vec::with_capacity(
             alloc,
-            (<V::P as Place>::Number::bits() / 5 + 1) as usize,
+            (<V::P as PlainPrefix>::Number::bits() / 5 + 1) as usize,
         )?;
         let mut steps = Steps::start();
         let key = prefix.number();
@@ -310,11 +298,11 @@ impl<'a, V: TrieView<'a>> ViewIter<V> {
         ensures frugal { IsFrugalWalk V.told self.old → IfSome result (λ r. IsOk r) }
         ensures stays { IsFrugalWalk V.told self.old → IsFrugalWalk V.told self.new }
         ensures given { NextOf V.told V.item V.P.net V.P.raw V.P.Number.width self.old self.new result }
-        ensures ends { IfSome result (λ r. work_left V.told V.P.Number.width self.new < work_left V.told V.P.Number.width self.old) }
+        ensures ends { IfSome result (λ r. WalksOn V.told V.P.Number.width self.old self.new) }
         ensures last { IfNone result (IsOver V.told V.P.Number.width self.new) }
         ensures refused { IfSome result (λ r. OnErr r (IsOver V.told V.P.Number.width self.new)) }
         ensures over { IsOver V.told V.P.Number.width self.old → IsNone result }
-        ensures list { (ps : List (Net × V.Item)) → IsListOf V.P.Number.width (ToCome V.told V.P.Number.width self.old) ps → TakesFirst V.told V.item V.P.net V.P.Number.width self.new ps result }
+        ensures list { TakesFirstOf V.told V.item V.P.net V.P.Number.width self.old self.new result }
     {
         'moves: loop {
             match advance(&mut self.levels, &mut self.steps) {

@@ -6,12 +6,12 @@ use Rattle.std.proofs.Math.Nat.{mul_comm}
 use Rattle.std.proofs.lemmas.Bool.{le-leb, eq-eqb}
 use Rattle.trie_model.proofs.SlotLaws.{less_or}
 use Rattle.trie_model.specs.Nets.{Net, IsNet, masked, covers}
-use Rattle.trie_model.specs.Heap.{order_key, ltb}
+use Rattle.trie_model.specs.Spots.{order_key, ltb}
 use Rattle.trie_model.specs.Views.{same_net}
 use Rattle.trie_model.specs.Walks.{Within, Ascends, IsListOf}
 use Rattle.trie_model.specs.Maps.{with_entry, without_entry, no_entries, Entry, net_at, pair_if, pairs_under, pairs, value_at, put_pair, removed, inserted}
 use Rattle.trie_model.proofs.Places.{elim-false, both_hold, covers_len, covers_bits}
-use Rattle.trie_model.proofs.HeapLaws.{lt-ltb, ltb-lt}
+use Rattle.trie_model.proofs.SpotLaws.{lt-ltb, ltb-lt}
 use Rattle.trie_model.proofs.TrieLaws.{same_net_is, same_back}
 use Rattle.trie_model.proofs.NodeLaws.{same_some}
 use Rattle.trie_model.proofs.WalkLaws.{either}
@@ -22,7 +22,7 @@ use Rattle.trie_model.proofs.MapLaws.{nets_or, by_somes}
 key_bits : (w : ℕ) (a : Net) → a.len ≤ w → order_key w a / (w + 1) ≡ a.bits
 key_bits w a h = div-mul-add a.bits (w + 1) a.len (omega arith)
 
--- two prefixes of one rank are one
+-- Two prefixes of one rank are one.
 pub order_apart : (w : ℕ) (a b : Net) → a.len ≤ w → b.len ≤ w → order_key w a ≡ order_key w b → a ≡ b
 order_apart w a b ha hb e =
     let bits : a.bits ≡ b.bits = sym (key_bits w a ha) ∙ ap (λ k. k / (w + 1)) e ∙ key_bits w b hb in
@@ -35,16 +35,19 @@ order_apart w a b ha hb e =
 abbrev Same : {X : Type 0} → Net → X → Net → X → Type 0
 Same n x k y = (n ≡ k) × (x ≡ y)
 
-out_put : {X : Type 0} (w : ℕ) (n : Net) (x : X) (p : Net × X) (ps qs : List (Net × X)) (k : Net) (y : X) (t : Bool) → (Within qs k y → Same n x k y ⊎ Within ps k y) → Within (cond t ((n, x) ∷ (p ∷ ps)) (p ∷ qs)) k y → Same n x k y ⊎ Within (p ∷ ps) k y
+out_put : {X : Type 0} (w : ℕ) (n : Net) (x : X) (p : Net × X) (ps qs : List (Net × X)) (k : Net) (y : X) (t : Bool)
+    → (Within qs k y → Same n x k y ⊎ Within ps k y) → Within (cond t ((n, x) ∷ (p ∷ ps)) (p ∷ qs)) k y → Same n x k y ⊎ Within (p ∷ ps) k y
 unfolding Within
 out_put w n x p ps qs k y true h a = a
 out_put w n x p ps qs k y false h a = either (λ e. inr (inl e)) (λ e. either (λ z. inl z) (λ z. inr (inr z)) (h e)) a
 
-in_put : {X : Type 0} (w : ℕ) (n : Net) (x : X) (p : Net × X) (ps qs : List (Net × X)) (k : Net) (y : X) (t : Bool) → (Same n x k y ⊎ Within ps k y → Within qs k y) → Same n x k y ⊎ Within (p ∷ ps) k y → Within (cond t ((n, x) ∷ (p ∷ ps)) (p ∷ qs)) k y
+in_put : {X : Type 0} (w : ℕ) (n : Net) (x : X) (p : Net × X) (ps qs : List (Net × X)) (k : Net) (y : X) (t : Bool)
+    → (Same n x k y ⊎ Within ps k y → Within qs k y) → Same n x k y ⊎ Within (p ∷ ps) k y → Within (cond t ((n, x) ∷ (p ∷ ps)) (p ∷ qs)) k y
 unfolding Within
 in_put w n x p ps qs k y true h a = a
 in_put w n x p ps qs k y false h a = either (λ e. inr (h (inl e))) (λ e. either (λ z. inl z) (λ z. inr (h (inr z))) e) a
 
+-- A list with a pair more has that pair and its old ones.
 pub within_put : {X : Type 0} (w : ℕ) (n : Net) (x : X) (ps : List (Net × X)) (k : Net) (y : X) → Within (put_pair w n x ps) k y ↔ (Same n x k y ⊎ Within ps k y)
 unfolding Within put_pair
 within_put w n x [] k y = ((λ h. h), (λ h. h))
@@ -57,12 +60,15 @@ length_by : {X : Type 0} (t : Bool) (a b : List X) (k : ℕ) → length a ≡ k 
 length_by true a b k p q = p
 length_by false a b k p q = q
 
+-- A list with a pair more is one longer.
 pub length_put : {X : Type 0} (w : ℕ) (n : Net) (x : X) (ps : List (Net × X)) → length (put_pair w n x ps) ≡ suc (length ps)
 unfolding put_pair
 length_put w n x [] = refl
 length_put w n x (p ∷ ps) = length_by (ltb (order_key w n) (order_key w p.0)) ((n, x) ∷ (p ∷ ps)) (p ∷ put_pair w n x ps) (suc (suc (length ps))) refl (ap suc (length_put w n x ps))
 
-ascends_by : {X : Type 0} (w : ℕ) (n : Net) (x : X) (p : Net × X) (ps qs : List (Net × X)) (t : Bool) → ltb (order_key w n) (order_key w p.0) ≡ t → Ascends w (p ∷ ps) → (p.0 ≢ n) → p.0.len ≤ w → n.len ≤ w → ((k : Net) (y : X) → Within qs k y → Same n x k y ⊎ Within ps k y) → Ascends w qs → Ascends w (cond t ((n, x) ∷ (p ∷ ps)) (p ∷ qs))
+ascends_by : {X : Type 0} (w : ℕ) (n : Net) (x : X) (p : Net × X) (ps qs : List (Net × X)) (t : Bool) → ltb (order_key w n) (order_key w p.0) ≡ t
+    → Ascends w (p ∷ ps) → (p.0 ≢ n) → p.0.len ≤ w → n.len ≤ w → ((k : Net) (y : X) → Within qs k y → Same n x k y ⊎ Within ps k y) → Ascends w qs
+    → Ascends w (cond t ((n, x) ∷ (p ∷ ps)) (p ∷ qs))
 unfolding Within Ascends
 ascends_by w n x p ps qs true e up ne hp hn out more =
     let lt = ltb-lt _ _ e in
@@ -78,6 +84,7 @@ ascends_by w n x p ps qs false e up ne hp hn out more =
     strictly : (a b : ℕ) → a ≤ b → (a ≡ b → ⊥) → a < b
     strictly a b le ne' = let apart : a ≢ b = ne' in omega (arith, apart)
 
+-- An ascending list stays ascending with a pair whose prefix it doesn't have.
 pub ascends_put : {X : Type 0} (w : ℕ) (n : Net) (x : X) (ps : List (Net × X)) → n.len ≤ w → Ascends w ps → ((k : Net) (y : X) → Within ps k y → (k.len ≤ w) × (k ≢ n)) → Ascends w (put_pair w n x ps)
 unfolding Within Ascends put_pair
 ascends_put w n x [] fits up fresh = ((λ k y h. absurd h), tt)
@@ -94,7 +101,8 @@ later w n ps far k y h = by (nets_or n k)
     by (inl e) = absurd (let l = far k y h in let z = ap (order_key w) e in let no : ⊥ = omega (arith, l, z) in no)
     by (inr f) = f
 
-drop_by : {X : Type 0} (w : ℕ) (n : Net) (p : Net × X) (ps qs : List (Net × X)) (k : Net) (y : X) (t : Bool) → same_net n p.0 ≡ t → Ascends w (p ∷ ps) → (Within qs k y ↔ ((same_net n k ≡ false) × Within ps k y)) → Within (cond t ps (p ∷ qs)) k y ↔ ((same_net n k ≡ false) × Within (p ∷ ps) k y)
+drop_by : {X : Type 0} (w : ℕ) (n : Net) (p : Net × X) (ps qs : List (Net × X)) (k : Net) (y : X) (t : Bool) → same_net n p.0 ≡ t → Ascends w (p ∷ ps)
+    → (Within qs k y ↔ ((same_net n k ≡ false) × Within ps k y)) → Within (cond t ps (p ∷ qs)) k y ↔ ((same_net n k ≡ false) × Within (p ∷ ps) k y)
 unfolding Within Ascends
 drop_by {X} w n p ps qs k y true e up rec =
     let is : n ≡ p.0 = same_back n p.0 e in (
@@ -106,6 +114,7 @@ drop_by w n p ps qs k y false e up rec = (
   (λ h. either (λ z. inl z) (λ z. inr (rec.1 (h.0, z))) h.1),
 )
 
+-- A list without a prefix has the pairs of the other prefixes.
 pub within_drop : {X : Type 0} (w : ℕ) (n : Net) (ps : List (Net × X)) → Ascends w ps → (k : Net) (y : X) → Within (removed ps n) k y ↔ ((same_net n k ≡ false) × Within ps k y)
 unfolding Within Ascends removed
 within_drop w n [] up k y = ((λ h. absurd h), (λ h. h.1))
@@ -116,6 +125,7 @@ unfolding Within Ascends
 ascends_less w p ps qs true up sub more = up.1
 ascends_less w p ps qs false up sub more = ((λ k y h. up.0 k y (sub k y h)), more)
 
+-- An ascending list stays ascending without a prefix.
 pub ascends_drop : {X : Type 0} (w : ℕ) (n : Net) (ps : List (Net × X)) → Ascends w ps → Ascends w (removed ps n)
 unfolding Within Ascends removed
 ascends_drop w n [] up = tt
@@ -126,6 +136,7 @@ unfolding Within
 less_by n p ps qs y true e h rec = refl
 less_by n p ps qs y false e h rec = either (λ z. absurd (elim-false (sym e ∙ same_net_is n p.0 (sym z.0)))) (λ z. ap suc (rec z)) h
 
+-- A list without one of its prefixes is one shorter.
 pub length_drop : {X : Type 0} (n : Net) (ps : List (Net × X)) (y : X) → Within ps n y → suc (length (removed ps n)) ≡ length ps
 unfolding Within removed
 length_drop n [] y h = absurd h
@@ -148,7 +159,7 @@ without_same m n k e = ap (λ t. cond t None (m k)) (same_net_is n k e)
 none_some : {X : Type 0} (x : X) → None ≡ Some x → ⊥
 none_some x e = cc
 
--- the list of the map without an entry
+-- The list of the map without an entry.
 list_without : {X : Type 0} (w : ℕ) (m : Net → Option X) (n : Net) (ps : List (Net × X)) → IsListOf w (Entry m) ps → IsListOf w (Entry (without_entry m n)) (removed ps n)
 list_without {X} w m n ps is = record {
   ascends = ascends_drop w n ps is.ascends;
@@ -162,8 +173,10 @@ list_without {X} w m n ps is = record {
     back k y h (inl e) = absurd (none_some y (sym (without_same m n k e) ∙ h))
     back k y h (inr f) = (within_drop w n ps is.ascends k y).1 (f, (is.same k y).1 (sym (without_other m n k f) ∙ h))
 
--- the list of the map with an entry, from that of the map without it
-list_with : {X : Type 0} (w : ℕ) (m m0 : Net → Option X) (n : Net) (x : X) (ps : List (Net × X)) → n.len ≤ w → ((k : Net) (y : X) → m0 k ≡ Some y → k.len ≤ w) → ((k : Net) → same_net n k ≡ false → m0 k ≡ m k) → m0 n ≡ None → IsListOf w (Entry m0) ps → IsListOf w (Entry (with_entry m n x)) (put_pair w n x ps)
+-- The list of the map with an entry, from that of the map without it.
+list_with : {X : Type 0} (w : ℕ) (m m0 : Net → Option X) (n : Net) (x : X) (ps : List (Net × X)) → n.len ≤ w
+    → ((k : Net) (y : X) → m0 k ≡ Some y → k.len ≤ w) → ((k : Net) → same_net n k ≡ false → m0 k ≡ m k) → m0 n ≡ None → IsListOf w (Entry m0) ps
+    → IsListOf w (Entry (with_entry m n x)) (put_pair w n x ps)
 list_with {X} w m m0 n x ps fits nets others none is = record {
   ascends = ascends_put w n x ps fits is.ascends (λ k y h. let a = (is.same k y).0 h in (nets k y a, λ e. none_some y (sym none ∙ ap m0 (sym e) ∙ a)));
   same = λ k y. (
@@ -184,6 +197,7 @@ nothing_by : {X : Type 0} (n : Net) (p : Net × X) (ps qs : List (Net × X)) (t 
 nothing_by n p ps qs true e never h = absurd (never (sym (same_back n p.0 e), refl))
 nothing_by n p ps qs false e never h = ap (λ zs. p ∷ zs) h
 
+-- Removing a prefix that a list doesn't have leaves it as it is.
 pub nothing_removed : {X : Type 0} (ps : List (Net × X)) (n : Net) → ((y : X) → Within ps n y → ⊥) → removed ps n ≡ ps
 unfolding Within removed
 nothing_removed [] n none = refl
@@ -191,10 +205,11 @@ nothing_removed (p ∷ ps) n none = nothing_by n p ps (removed ps n) (same_net n
 
 -- ---- one list
 
+-- Pairs with the same prefix and the same value are one.
 pub pair_of : {X : Type 0} (p q : Net × X) → p.0 ≡ q.0 → p.1 ≡ q.1 → p ≡ q
 pair_of p q e f = λ i. (e i, f i)
 
--- two lists in order with the same pairs are one
+-- Two lists in order with the same pairs are one.
 pub one_list : {X : Type 0} (w : ℕ) (ps qs : List (Net × X)) → Ascends w ps → Ascends w qs → ((n : Net) (x : X) → Within ps n x → Within qs n x) → ((n : Net) (x : X) → Within qs n x → Within ps n x) → ps ≡ qs
 unfolding Within Ascends
 one_list w [] [] up down to from = refl
@@ -211,6 +226,7 @@ one_list {X} w (p ∷ ps) (q ∷ qs) up down to from =
     heads (inr h) (inl e) = pair_of p q e.0 e.1
     heads (inr h) (inr k) = absurd (let a = down.0 p.0 p.1 h in let b = up.0 q.0 q.1 k in let no : ⊥ = omega (arith, a, b) in no)
 
+-- A relation has one list in order.
 pub unique : {X : Type 0} (w : ℕ) (at : Net → X → Type 0) (ps qs : List (Net × X)) → IsListOf w at ps → IsListOf w at qs → ps ≡ qs
 unique w at ps qs a b = one_list w ps qs a.ascends b.ascends (λ n x h. (b.same n x).1 ((a.same n x).0 h)) (λ n x h. (a.same n x).1 ((b.same n x).0 h))
 
@@ -243,6 +259,7 @@ ascends_end w (p ∷ ps) k o up below = (
   ascends_end w ps k o up.1 (λ n x h. below n x (inr h)),
 )
 
+-- Each pair under a rank is an entry of the map, and its key is below the rank.
 pub pairs_are : {X : Type 0} (w : ℕ) (m : Net → Option X) (rank : ℕ) (n : Net) (x : X) → Within (pairs_under w m rank) n x → (m n ≡ Some x) × (order_key w n < rank)
 unfolding Within pairs_under
 pairs_are w m zero n x h = absurd h
@@ -259,6 +276,7 @@ less_or_same a b h = by (ltb a b) refl
     by true e = inr (ltb-lt a b e)
     by false e = inl (let ge : b < a + 1 = lt_of_not-le (λ le. elim-false (sym e ∙ lt-ltb a b (let l : a < b = omega arith in l))) in omega (arith, ge, h))
 
+-- Each entry of the map whose key is below a rank is a pair under it.
 pub are_pairs : {X : Type 0} (w : ℕ) (m : Net → Option X) (rank : ℕ) (n : Net) (x : X) → n.len ≤ w → m n ≡ Some x → order_key w n < rank → Within (pairs_under w m rank) n x
 unfolding Within pairs_under
 are_pairs w m zero n x fits is lt = absurd (let no : ⊥ = omega arith in no)
@@ -275,10 +293,11 @@ pairs_ascend w m (suc rank) = ascends_end w (pairs_under w m rank) (net_at w ran
 rank_below : (w : ℕ) (n : Net) → IsNet w n → order_key w n < 2 ^ w * (w + 1)
 rank_below w n ok = subst (λ x. order_key w n < x) (mul_comm (w + 1) (2 ^ w)) (mul-add-lt n.bits (w + 1) n.len (2 ^ w) ok.bits_fit (let l = ok.len_fits in omega arith))
 
--- every entry is one of a prefix of this width
+-- Every entry is one of a prefix of this width.
 abbrev pub OfWidth : {X : Type 0} → ℕ → (Net → Option X) → Type 0
 OfWidth {X} w m = (n : Net) (x : X) → m n ≡ Some x → IsNet w n
 
+-- The pairs of a map are the list of its entries in order.
 pub list_of_map : {X : Type 0} (w : ℕ) (m : Net → Option X) → OfWidth w m → IsListOf w (Entry m) (pairs w m)
 unfolding pairs
 list_of_map w m nets = record {
@@ -288,6 +307,7 @@ list_of_map w m nets = record {
 
 -- ---- changes
 
+-- The map with no entry has no pairs.
 pub pairs_none : {X : Type 0} (w : ℕ) (m : Net → Option X) → m ≡ no_entries → pairs w m ≡ []
 unfolding Within Ascends
 pairs_none {X} w m e = unique w (Entry m) (pairs w m) [] (list_of_map w m (λ n x h. absurd (none n x h))) (record { ascends = tt; same = λ n x. ((λ h. absurd h), (λ h. none n x h)) })
@@ -295,6 +315,7 @@ pairs_none {X} w m e = unique w (Entry m) (pairs w m) [] (list_of_map w m (λ n 
     none : (n : Net) (x : X) → m n ≡ Some x → ⊥
     none n x h = none_some x (sym (ap (λ f. f n) e) ∙ h)
 
+-- The pairs without a prefix are the list of the map without it.
 pub removed_list : {X : Type 0} (w : ℕ) (m : Net → Option X) (n : Net) → OfWidth w m → IsListOf w (Entry (without_entry m n)) (removed (pairs w m) n)
 removed_list w m n nets = list_without w m n (pairs w m) (list_of_map w m nets)
 
@@ -312,9 +333,11 @@ with_width {X} w m n x ok nets k y h = by (nets_or n k)
     by (inl e) = subst (IsNet w) e ok
     by (inr f) = nets k y (sym (with_other m n k x f) ∙ h)
 
+-- The pairs of a map without a prefix are its pairs with that prefix removed.
 pub pairs_without : {X : Type 0} (w : ℕ) (m : Net → Option X) (n : Net) → OfWidth w m → pairs w (without_entry m n) ≡ removed (pairs w m) n
 pairs_without w m n nets = unique w _ _ _ (list_of_map w (without_entry m n) (without_width w m n nets)) (removed_list w m n nets)
 
+-- The pairs of a map with a value for a prefix are its pairs with that value inserted.
 pub pairs_with : {X : Type 0} (w : ℕ) (m : Net → Option X) (n : Net) (x : X) → IsNet w n → OfWidth w m → pairs w (with_entry m n x) ≡ inserted w (pairs w m) n x
 pairs_with w m n x ok nets = unique w _ _ _ (list_of_map w (with_entry m n x) (with_width w m n x ok nets))
     (list_with w m (without_entry m n) n x (removed (pairs w m) n) ok.len_fits (λ k y h. (without_width w m n nets k y h).len_fits) (λ k f. without_other m n k f) (without_same m n n refl) (removed_list w m n nets))
@@ -325,6 +348,7 @@ value_by : {X : Type 0} (n : Net) (p : Net × X) (o : Option X) (x : X) (t : Boo
 value_by n p o x true e k h = inl (sym (same_back n p.0 e), same_some p.1 x h)
 value_by n p o x false e k h = inr h
 
+-- The value of a prefix in a list is in a pair of it.
 pub value_within : {X : Type 0} (ps : List (Net × X)) (n : Net) (x : X) → value_at ps n ≡ Some x → Within ps n x
 unfolding value_at Within
 value_within [] n x h = absurd (none_some x h)
@@ -338,6 +362,7 @@ later_none w p ps n x up h = by (nets_or n p.0)
     by (inl e) = absurd (let l = up.0 n x h in let g = ap (order_key w) e in let no : ⊥ = omega (arith, l, g) in no)
     by (inr f) = f
 
+-- In an ascending list the value of a prefix is that of its pair.
 pub within_value : {X : Type 0} (w : ℕ) (ps : List (Net × X)) (n : Net) (x : X) → Ascends w ps → Within ps n x → value_at ps n ≡ Some x
 unfolding value_at Within Ascends
 within_value w [] n x up h = absurd h
@@ -345,22 +370,25 @@ within_value w (p ∷ ps) n x up h = either
     (λ e. ap (λ t. cond t (Some p.1) (value_at ps n)) (same_net_is n p.0 (sym e.0)) ∙ ap Some e.1)
     (λ z. ap (λ t. cond t (Some p.1) (value_at ps n)) (later_none w p ps n x up z) ∙ within_value w ps n x up.1 z) h
 
--- the list tells the map
+-- The list tells the map.
 pub value_of_map : {X : Type 0} (w : ℕ) (m : Net → Option X) (n : Net) → OfWidth w m → value_at (pairs w m) n ≡ m n
 value_of_map w m n nets = let is = list_of_map w m nets in
     by_somes _ _ (λ x h. (is.same n x).0 (value_within (pairs w m) n x h)) (λ x h. within_value w (pairs w m) n x is.ascends ((is.same n x).1 h))
 
 -- ---- lengths
 
+-- A map with a value for a new prefix has one pair more.
 pub length_with : {X : Type 0} (w : ℕ) (m : Net → Option X) (n : Net) (x : X) → IsNet w n → OfWidth w m → m n ≡ None → length (pairs w (with_entry m n x)) ≡ length (pairs w m) + 1
 length_with w m n x ok nets none =
     ap length (pairs_with w m n x ok nets) ∙ length_put w n x (removed (pairs w m) n)
     ∙ (let e = ap length (nothing_removed (pairs w m) n (λ y h. none_some y (sym none ∙ ((list_of_map w m nets).same n y).0 h))) in omega (arith, e))
 
+-- A map with another value for a prefix that it has has as many pairs.
 pub length_over : {X : Type 0} (w : ℕ) (m : Net → Option X) (n : Net) (x y : X) → IsNet w n → OfWidth w m → m n ≡ Some y → length (pairs w (with_entry m n x)) ≡ length (pairs w m)
 length_over w m n x y ok nets is =
     ap length (pairs_with w m n x ok nets) ∙ length_put w n x (removed (pairs w m) n) ∙ length_drop n (pairs w m) y (((list_of_map w m nets).same n y).1 is)
 
+-- A map without a prefix that it had has one pair less.
 pub length_without : {X : Type 0} (w : ℕ) (m : Net → Option X) (n : Net) (y : X) → OfWidth w m → m n ≡ Some y → suc (length (pairs w (without_entry m n))) ≡ length (pairs w m)
 length_without w m n y nets is = ap (λ ps. suc (length ps)) (pairs_without w m n nets) ∙ length_drop n (pairs w m) y (((list_of_map w m nets).same n y).1 is)
 
@@ -372,6 +400,7 @@ lower_bits w a b h lt = mul-add-lt-lower a.bits (w + 1) a.len b.bits lt (omega a
     mul-add-lt-lower : (x u r y : ℕ) → x < y → r < u → (s : ℕ) → x * u + r < y * u + s
     mul-add-lt-lower x u r y lt' small s = let m = mul-add-lt x u r y lt' small in let e = mul_comm u y in omega (arith, m, e)
 
+-- Keys are in the order of bits and then of lengths.
 pub order_is : (w : ℕ) (a b : Net) → a.len ≤ w → b.len ≤ w → (order_key w a < order_key w b) ↔ ((a.bits < b.bits) ⊎ ((a.bits ≡ b.bits) × (a.len < b.len)))
 order_is w a b ha hb = (out_by (less_or a.bits b.bits), λ h. either (λ lt. lower_bits w a b ha lt) (λ s. let e : a.bits * (w + 1) ≡ b.bits * (w + 1) = ap (λ x. x * (w + 1)) s.0 in let l = s.1 in omega arith) h)
   where
@@ -386,9 +415,11 @@ order_is w a b ha hb = (out_by (less_or a.bits b.bits), λ h. either (λ lt. low
         by (inl far) = absurd (let k = lower_bits w b a hb far in let no : ⊥ = omega (arith, k, lt) in no)
         by (inr ge) = same_bits (let e : a.bits ≡ b.bits = omega (arith, le, ge) in e) lt
 
+-- A prefix without host bits contains itself.
 pub covers_same : (w : ℕ) (a : Net) → masked w a.bits a.len ≡ a.bits → covers w a a ≡ true
 covers_same w a e = both_hold _ _ (le-leb a.len a.len (omega arith)) (eq-eqb _ _ e)
 
+-- Two prefixes without host bits that contain each other are one.
 pub covers_both : (w : ℕ) (a b : Net) → masked w b.bits b.len ≡ b.bits → covers w a b ≡ true → covers w b a ≡ true → a ≡ b
 covers_both w a b e p q =
     let x = covers_len w a b p in

@@ -3,8 +3,8 @@ use Rattle.std.proofs.Common.{◌≡◌, ℕ, ◌+◌, ◌*◌, ◌<◌, ◌≤�
 use Rattle.std.specs.Prelude.{◌⊎◌, ◌↔◌, IsTrue}
 use Rattle.std.specs.Int.{bit_at}
 use Rattle.trie_model.specs.Nets.{Net, covers}
-use Rattle.trie_model.specs.Heap.{next_spot, order_key}
-use Rattle.trie_model.specs.Views.{Told, IsView, TookChild, IsChild}
+use Rattle.trie_model.specs.Spots.{next_spot, order_key}
+use Rattle.trie_model.specs.Views.{ViewValue, IsView, TookChild, IsChild}
 use Rattle.trie_model.specs.Walks.{Left, LevelOk, WalkOk, Roomy, AllFrugal, From, rest}
 use Rattle.trie_model.proofs.Places.{bit_below}
 use Rattle.trie_model.proofs.WalkLaws.{either, child_first}
@@ -12,8 +12,8 @@ use Rattle.trie_model.proofs.RoomLaws.{room_on, frugal_push, length_more}
 use Rattle.trie_model.proofs.RestLaws.{rest_view, rest_ahead, rest_start, rest_took, rest_child, rest_set}
 use Rattle.trie_model.proofs.StartLaws.{Through, child_inside, from_split, pushed, room_below}
 
--- where a walk that goes down to a prefix has come to: a view whose place contains it, over a stack of later pairs
-pub record Down {L X : Type 0} (good : L → Type 0) (tell plain : L → Told X) (spot : L → ℕ) (w : ℕ) (inclusive : Bool) (net : Net) (t0 : Told X) (ls0 : List L) (t : Told X) (ls : List L) (capacity : ℕ) : Type 0 where
+-- Where a walk that goes down to a prefix has come to: a view whose place contains it, over a stack of later pairs.
+pub record Down {L X : Type 0} (good : L → Type 0) (tell plain : L → ViewValue X) (spot : L → ℕ) (w : ℕ) (inclusive : Bool) (net : Net) (t0 : ViewValue X) (ls0 : List L) (t : ViewValue X) (ls : List L) (capacity : ℕ) : Type 0 where
   pub inside : covers w t.place net ≡ true
   pub stack : WalkOk good tell spot w ls
   pub first : (n m : Net) (x y : X) → t.at n x → Left tell ls m y → order_key w n < order_key w m
@@ -23,8 +23,8 @@ pub record Down {L X : Type 0} (good : L → Type 0) (tell plain : L → Told X)
   pub frugal : IsTrue t0.frugal → IsTrue t.frugal
   pub stays : AllFrugal plain ls0 → IsTrue t0.frugal → AllFrugal plain ls
 
--- a level that is put on the stack
-pub record Pushes {L X : Type 0} (good : L → Type 0) (tell plain : L → Told X) (spot : L → ℕ) (w : ℕ) (t : Told X) (ls new : List L) (l : L) (capacity c : ℕ) : Type 0 where
+-- A level that is put on the stack.
+pub record Pushes {L X : Type 0} (good : L → Type 0) (tell plain : L → ViewValue X) (spot : L → ℕ) (w : ℕ) (t : ViewValue X) (ls new : List L) (l : L) (capacity c : ℕ) : Type 0 where
   pub is : new ≡ ls ++ l ∷ []
   pub grows : capacity ≤ c
   pub level : LevelOk good tell spot w l
@@ -33,21 +33,29 @@ pub record Pushes {L X : Type 0} (good : L → Type 0) (tell plain : L → Told 
   pub frugal : IsTrue t.frugal → IsTrue (plain l).frugal
   pub less : (n : Net) (x : X) → (tell l).at n x → t.at n x
 
--- the stack at the end
-pub record Ended {L X : Type 0} (good : L → Type 0) (tell plain : L → Told X) (spot : L → ℕ) (w : ℕ) (inclusive : Bool) (net : Net) (t0 : Told X) (ls0 new : List L) (c : ℕ) : Type 0 where
+-- The stack at the end.
+pub record Ended {L X : Type 0} (good : L → Type 0) (tell plain : L → ViewValue X) (spot : L → ℕ) (w : ℕ) (inclusive : Bool) (net : Net) (t0 : ViewValue X) (ls0 new : List L) (c : ℕ) : Type 0 where
   pub stack : WalkOk good tell spot w new
   pub left : (n : Net) (x : X) → Left tell new n x ↔ ((t0.at n x × From w inclusive net n) ⊎ Left tell ls0 n x)
   pub room : Roomy w plain new c
   pub stays : AllFrugal plain ls0 → IsTrue t0.frugal → AllFrugal plain new
 
-stacked : {L X : Type 0} (good : L → Type 0) (tell plain : L → Told X) (spot : L → ℕ) (w : ℕ) (inclusive : Bool) (net : Net) (t0 t : Told X) (ls0 ls new : List L) (l : L) (capacity c : ℕ) → Down good tell plain spot w inclusive net t0 ls0 t ls capacity → Pushes good tell plain spot w t ls new l capacity c → WalkOk good tell spot w new × ((n : Net) (x : X) → Left tell new n x ↔ ((tell l).at n x ⊎ Left tell ls n x))
+stacked : {L X : Type 0} (good : L → Type 0) (tell plain : L → ViewValue X) (spot : L → ℕ) (w : ℕ) (inclusive : Bool) (net : Net) (t0 t : ViewValue X)
+    (ls0 ls new : List L) (l : L) (capacity c : ℕ) → Down good tell plain spot w inclusive net t0 ls0 t ls capacity → Pushes good tell plain spot w t
+    ls new l capacity c → WalkOk good tell spot w new × ((n : Net) (x : X) → Left tell new n x ↔ ((tell l).at n x ⊎ Left tell ls n x))
 stacked good tell plain spot w inclusive net t0 t ls0 ls new l capacity c d p = pushed good tell spot w ls new l p.is d.stack p.level (λ n m x y h k. d.first n m x y (p.less n x h) k)
 
-roomy : {L X : Type 0} (good : L → Type 0) (tell plain : L → Told X) (spot : L → ℕ) (w : ℕ) (inclusive : Bool) (net : Net) (t0 t : Told X) (ls0 ls new : List L) (l : L) (capacity c : ℕ) → Down good tell plain spot w inclusive net t0 ls0 t ls capacity → Pushes good tell plain spot w t ls new l capacity c → Roomy w plain new c
+roomy : {L X : Type 0} (good : L → Type 0) (tell plain : L → ViewValue X) (spot : L → ℕ) (w : ℕ) (inclusive : Bool) (net : Net) (t0 t : ViewValue X)
+    (ls0 ls new : List L) (l : L) (capacity c : ℕ) → Down good tell plain spot w inclusive net t0 ls0 t ls capacity → Pushes good tell plain spot w t
+    ls new l capacity c → Roomy w plain new c
 roomy good tell plain spot w inclusive net t0 t ls0 ls new l capacity c d p =
     room_on w plain new ls l l capacity c (room_below w plain ls l capacity p.view d.room (let deep = d.deep in let e = ap (λ n. n.len) p.place in omega (arith, deep, e))) p.is p.grows refl
 
-pub down_end : {L X : Type 0} (good : L → Type 0) (tell plain : L → Told X) (spot : L → ℕ) (w : ℕ) (inclusive : Bool) (net : Net) (t0 t : Told X) (ls0 ls new : List L) (l : L) (capacity c : ℕ) → Down good tell plain spot w inclusive net t0 ls0 t ls capacity → Pushes good tell plain spot w t ls new l capacity c → ((n : Net) (x : X) → (tell l).at n x ↔ (t.at n x × From w inclusive net n)) → Ended good tell plain spot w inclusive net t0 ls0 new c
+-- The last level of a way down ends it: the stack gives what the view has from the prefix on.
+pub down_end : {L X : Type 0} (good : L → Type 0) (tell plain : L → ViewValue X) (spot : L → ℕ) (w : ℕ) (inclusive : Bool) (net : Net)
+    (t0 t : ViewValue X) (ls0 ls new : List L) (l : L) (capacity c : ℕ) → Down good tell plain spot w inclusive net t0 ls0 t ls capacity → Pushes good
+    tell plain spot w t ls new l capacity c → ((n : Net) (x : X) → (tell l).at n x ↔ (t.at n x × From w inclusive net n)) → Ended good tell plain spot
+    w inclusive net t0 ls0 new c
 down_end good tell plain spot w inclusive net t0 t ls0 ls new l capacity c d p at =
     let s = stacked good tell plain spot w inclusive net t0 t ls0 ls new l capacity c d p in
     record {
@@ -60,7 +68,11 @@ down_end good tell plain spot w inclusive net t0 t ls0 ls new l capacity c d p a
       stays = λ all f. frugal_push plain new ls l p.is (d.stays all f) (p.frugal (d.frugal f));
     }
 
-pub down_next : {L X : Type 0} (good : L → Type 0) (tell plain : L → Told X) (spot : L → ℕ) (w : ℕ) (inclusive : Bool) (net : Net) (t0 t u v : Told X) (ls0 ls new : List L) (l : L) (bit capacity c : ℕ) → Down good tell plain spot w inclusive net t0 ls0 t ls capacity → Pushes good tell plain spot w t ls new l capacity c → Through w t net bit → bit_at t.child_bits bit ≡ 1 → TookChild w bit t u → IsChild w bit t v → ((n : Net) (x : X) → (tell l).at n x ↔ (rest w u (next_spot (32 + bit))).at n x) → Down good tell plain spot w inclusive net t0 ls0 v new c
+-- With a level pushed and its child entered, the way down goes on.
+pub down_next : {L X : Type 0} (good : L → Type 0) (tell plain : L → ViewValue X) (spot : L → ℕ) (w : ℕ) (inclusive : Bool) (net : Net)
+    (t0 t u v : ViewValue X) (ls0 ls new : List L) (l : L) (bit capacity c : ℕ) → Down good tell plain spot w inclusive net t0 ls0 t ls capacity
+    → Pushes good tell plain spot w t ls new l capacity c → Through w t net bit → bit_at t.child_bits bit ≡ 1 → TookChild w bit t u → IsChild w bit t
+    v → ((n : Net) (x : X) → (tell l).at n x ↔ (rest w u (next_spot (32 + bit))).at n x) → Down good tell plain spot w inclusive net t0 ls0 v new c
 down_next {L} {X} good tell plain spot w inclusive net t0 t u v ls0 ls new l bit capacity c d p go set took is at =
     let s = stacked good tell plain spot w inclusive net t0 t ls0 ls new l capacity c d p in
     record {
@@ -82,11 +94,16 @@ down_next {L} {X} good tell plain spot w inclusive net t0 t u v ls0 ls new l bit
     small = bit_below 32 t.child_bits bit go.ok.children_fit set
 
     before : (n m : Net) (x y : X) → v.at n x → (rest w u (next_spot (32 + bit))).at m y → order_key w n < order_key w m
-    before n m x y a b = child_first w (32 + bit) bit (rest w t (32 + bit)) (rest w u (next_spot (32 + bit))) (rest w v 1) (rest_view w t (32 + bit) (let lt = small in omega (arith, lt)) go.ok) (rest_ahead w t (32 + bit)) refl small set' (rest_child w t v (32 + bit) bit go.ok refl set is) (rest_took w t u (32 + bit) bit go.ok refl small set took) n m x y ((rest_start w v n x).1 a) b
+    before n m x y a b = child_first w (32 + bit) bit (rest w t (32 + bit)) (rest w u (next_spot (32 + bit))) (rest w v 1)
+        (rest_view w t (32 + bit) (let lt = small in omega (arith, lt)) go.ok) (rest_ahead w t (32 + bit)) refl small set'
+        (rest_child w t v (32 + bit) bit go.ok refl set is) (rest_took w t u (32 + bit) bit go.ok refl small set took) n m x y
+        ((rest_start w v n x).1 a) b
       where
         set' : bit_at (rest w t (32 + bit)).child_bits bit ≡ 1
         set' = rest_set t.child_bits (32 + bit) bit refl small set
 
--- there is room for a level
-pub down_space : {L X : Type 0} (good : L → Type 0) (tell plain : L → Told X) (spot : L → ℕ) (w : ℕ) (inclusive : Bool) (net : Net) (t0 t : Told X) (ls0 ls : List L) (capacity : ℕ) → Down good tell plain spot w inclusive net t0 ls0 t ls capacity → IsView w t → length ls < capacity
+-- There is room for a level.
+pub down_space : {L X : Type 0} (good : L → Type 0) (tell plain : L → ViewValue X) (spot : L → ℕ) (w : ℕ) (inclusive : Bool) (net : Net)
+    (t0 t : ViewValue X) (ls0 ls : List L) (capacity : ℕ) → Down good tell plain spot w inclusive net t0 ls0 t ls capacity → IsView w t → length ls
+    < capacity
 down_space good tell plain spot w inclusive net t0 t ls0 ls capacity d ok = let r = d.room.room in let deep = d.deep in let fits = ok.place_ok.len_fits in omega (arith, r, deep, fits)

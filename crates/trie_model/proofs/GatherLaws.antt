@@ -3,10 +3,10 @@ use Rattle.std.proofs.Common.{◌≡◌, ℕ, ◌+◌, ◌<◌, ◌∙◌, sym, 
 use Rattle.std.specs.Prelude.{◌⊎◌, ◌↔◌}
 use Rattle.std.proofs.lemmas.List.{map-append}
 use Rattle.trie_model.specs.Nets.{Net}
-use Rattle.trie_model.specs.Heap.{order_key, ltb}
-use Rattle.trie_model.specs.Views.{Told, same_net}
+use Rattle.trie_model.specs.Spots.{order_key, ltb}
+use Rattle.trie_model.specs.Views.{ViewValue, same_net}
 use Rattle.trie_model.specs.Walks.{Left, Sorted, EachOk, WalkOk, Gives, From, Within, Ascends, IsListOf, pairs_from}
-use Rattle.trie_model.proofs.HeapLaws.{lt-ltb, ltb-lt}
+use Rattle.trie_model.proofs.SpotLaws.{lt-ltb, ltb-lt}
 use Rattle.trie_model.proofs.Places.{elim-false}
 use Rattle.trie_model.proofs.TrieLaws.{same_back}
 use Rattle.trie_model.proofs.WalkLaws.{either}
@@ -42,8 +42,8 @@ ascends_last w (p ∷ ps) n x up less = (
 
 -- ---- what is left
 
--- a prefix has one item in what is left
-one_left : {L X : Type 0} (good : L → Type 0) (tell : L → Told X) (spot : L → ℕ) (w : ℕ) (ls : List L) (n : Net) (x y : X) → EachOk good tell spot w ls → Sorted w tell ls → Left tell ls n x → Left tell ls n y → x ≡ y
+-- A prefix has one item in what is left.
+one_left : {L X : Type 0} (good : L → Type 0) (tell : L → ViewValue X) (spot : L → ℕ) (w : ℕ) (ls : List L) (n : Net) (x y : X) → EachOk good tell spot w ls → Sorted w tell ls → Left tell ls n x → Left tell ls n y → x ≡ y
 unfolding Left Sorted EachOk
 one_left good tell spot w [] n x y each sorted h k = absurd h
 one_left good tell spot w (l ∷ ls) n x y each sorted (inl h) (inl k) = each.0.view.one n x y h k
@@ -52,11 +52,13 @@ one_left good tell spot w (l ∷ ls) n x y each sorted (inr h) (inl k) = absurd 
 one_left good tell spot w (l ∷ ls) n x y each sorted (inr h) (inr k) = one_left good tell spot w ls n x y each.1 sorted.1 h k
 
 -- ---- what a walk gathered so far, of all that it had to give, and what it has still to give
+-- The pairs that were given and those that are still to come make up the whole, and the former come first.
 pub record Gathered {X : Type 0} (w : ℕ) (all now : Net → X → Type 0) (done : List (Net × X)) : Type 0 where
   pub ascends : Ascends w done
   pub split : (n : Net) (x : X) → all n x ↔ (Within done n x ⊎ now n x)
   pub first : (n m : Net) (x y : X) → Within done n x → now m y → order_key w n < order_key w m
 
+-- At the start of a walk nothing was given and all is to come.
 pub gathered_none : {X : Type 0} (w : ℕ) (all now : Net → X → Type 0) → ((n : Net) (x : X) → now n x ↔ all n x) → Gathered w all now []
 unfolding Within Ascends
 gathered_none w all now is = record {
@@ -65,7 +67,10 @@ gathered_none w all now is = record {
   first = λ n m x y h. absurd h;
 }
 
-pub gathered_more : {L X : Type 0} (good : L → Type 0) (tell : L → Told X) (spot : L → ℕ) (w : ℕ) (all : Net → X → Type 0) (old new : List L) (done : List (Net × X)) (n : Net) (x : X) → WalkOk good tell spot w old → Gathered w all (Left tell old) done → Gives w tell old new n x → Gathered w all (Left tell new) (done ++ (n, x) ∷ [])
+-- With the next pair of a walk given, the given pairs are one more.
+pub gathered_more : {L X : Type 0} (good : L → Type 0) (tell : L → ViewValue X) (spot : L → ℕ) (w : ℕ) (all : Net → X → Type 0) (old new : List L)
+    (done : List (Net × X)) (n : Net) (x : X) → WalkOk good tell spot w old → Gathered w all (Left tell old) done → Gives w tell old new n x
+    → Gathered w all (Left tell new) (done ++ (n, x) ∷ [])
 gathered_more {L} {X} good tell spot w all old new done n x ok so gives = record {
   ascends = ascends_last w done n x so.ascends (λ k y h. so.first k n y x h gives.had);
   split = λ m y. ((λ h. either (λ a. inl (in_front done _ m y a)) (λ k. next m y k) ((so.split m y).0 h)), (λ h. either (λ a. back m y a) (λ k. (so.split m y).1 (inr ((gives.others m y).0 k).0)) h));
@@ -83,20 +88,25 @@ gathered_more {L} {X} good tell spot w all old new done n x ok so gives = record
     back : (m : Net) (y : X) → Within (done ++ (n, x) ∷ []) m y → all m y
     back m y h = either (λ a. (so.split m y).1 (inl a)) (λ e. (so.split m y).1 (inr (subst (λ q. Left tell old q y) e.0 (subst (λ z. Left tell old n z) e.1 gives.had)))) (front_or_last done n m x y h)
 
+-- Where nothing is to come any more, the pairs that were given are the list of all.
 pub gathered_all : {X : Type 0} (w : ℕ) (all now : Net → X → Type 0) (done : List (Net × X)) → Gathered w all now done → ((n : Net) (x : X) → now n x → ⊥) → IsListOf w all done
 gathered_all w all now done so none = record {
   ascends = so.ascends;
   same = λ n x. ((λ h. (so.split n x).1 (inl h)), (λ h. either (λ a. a) (λ k. absurd (none n x k)) ((so.split n x).0 h)));
 }
 
--- the same of what the pairs of a list stand for
-pub gathered_push : {A L X : Type 0} (good : L → Type 0) (tell : L → Told X) (spot : L → ℕ) (w : ℕ) (all : Net → X → Type 0) (stands : A → Net × X) (old new : List L) (done more : List A) (p : A) → WalkOk good tell spot w old → Gathered w all (Left tell old) (map stands done) → Gives w tell old new (stands p).0 (stands p).1 → more ≡ done ++ p ∷ [] → Gathered w all (Left tell new) (map stands more)
+-- The same of what the pairs of a list stand for.
+pub gathered_push : {A L X : Type 0} (good : L → Type 0) (tell : L → ViewValue X) (spot : L → ℕ) (w : ℕ) (all : Net → X → Type 0)
+    (stands : A → Net × X) (old new : List L) (done more : List A) (p : A) → WalkOk good tell spot w old → Gathered w all (Left tell old)
+    (map stands done) → Gives w tell old new (stands p).0 (stands p).1 → more ≡ done ++ p ∷ [] → Gathered w all (Left tell new) (map stands more)
 gathered_push good tell spot w all stands old new done more p ok so gives e =
     subst (Gathered w all (Left tell new)) (sym (ap (map stands) e ∙ map-append stands done (p ∷ []))) (gathered_more good tell spot w all old new (map stands done) (stands p).0 (stands p).1 ok so gives)
 
 -- ---- the list from a prefix on
 
-from_by : {X : Type 0} (w : ℕ) (inclusive : Bool) (net : Net) (p : Net × X) (ps qs : List (Net × X)) (n : Net) (x : X) (b : Bool) → ltb (order_key w net) (order_key w p.0 + cond inclusive 1 0) ≡ b → Within qs n x ↔ (Within ps n x × From w inclusive net n) → Within (cond b (p ∷ qs) qs) n x ↔ (Within (p ∷ ps) n x × From w inclusive net n)
+from_by : {X : Type 0} (w : ℕ) (inclusive : Bool) (net : Net) (p : Net × X) (ps qs : List (Net × X)) (n : Net) (x : X) (b : Bool) → ltb
+    (order_key w net) (order_key w p.0 + cond inclusive 1 0) ≡ b → Within qs n x ↔ (Within ps n x × From w inclusive net n) → Within
+    (cond b (p ∷ qs) qs) n x ↔ (Within (p ∷ ps) n x × From w inclusive net n)
 unfolding Within
 from_by w inclusive net p ps qs n x true t rest = (
   λ h. either (λ e. (inl e, subst (λ q. From w inclusive net q) e.0 (ltb-lt _ _ t))) (λ k. let r = rest.0 k in (inr r.0, r.1)) h,
@@ -122,8 +132,9 @@ unfolding Ascends pairs_from
 from_ascends w inclusive net [] up = tt
 from_ascends w inclusive net (p ∷ ps) up = up_by w p (pairs_from w inclusive net ps) _ (λ n x h. up.0 n x ((from_same w inclusive net ps n x).0 h).0) (from_ascends w inclusive net ps up.1)
 
--- what a walk from a prefix on has to give is the list from there
-pub listed_from : {X : Type 0} (w : ℕ) (inclusive : Bool) (net : Net) (at : Net → X → Type 0) (ps : List (Net × X)) → Ascends w ps → ((n : Net) (x : X) → at n x ↔ (Within ps n x × From w inclusive net n)) → IsListOf w at (pairs_from w inclusive net ps)
+-- What a walk from a prefix on has to give is the list from there.
+pub listed_from : {X : Type 0} (w : ℕ) (inclusive : Bool) (net : Net) (at : Net → X → Type 0) (ps : List (Net × X)) → Ascends w ps
+    → ((n : Net) (x : X) → at n x ↔ (Within ps n x × From w inclusive net n)) → IsListOf w at (pairs_from w inclusive net ps)
 listed_from w inclusive net at ps up is = record {
   ascends = from_ascends w inclusive net ps up;
   same = λ n x. ((λ h. (is n x).1 ((from_same w inclusive net ps n x).0 h)), (λ h. (from_same w inclusive net ps n x).1 ((is n x).0 h)));

@@ -2,27 +2,28 @@
 use Rattle.std.proofs.Common.{◌≡◌, ◌∙◌, Bool, sym, ap, subst, refl, arith, List, [], ◌∷◌, inl, inr}
 use Rattle.std.specs.Prelude.{◌⊎◌, ◌↔◌, ℕ, Result, Ok, Err, IfOk}
 use Rattle.trie_model.specs.Nets.{Net}
-use Rattle.trie_model.specs.Heap.{order_key}
-use Rattle.trie_model.specs.Views.{Told, same_net}
+use Rattle.trie_model.specs.Spots.{order_key}
+use Rattle.trie_model.specs.Views.{ViewValue, same_net}
 use Rattle.trie_model.specs.Walks.{Left, Gives, From, Within, Ascends, IsListOf, ListGoesOn, pairs_from}
 use Rattle.trie_model.proofs.Places.{elim-false, not_true}
 use Rattle.trie_model.proofs.TrieLaws.{same_net_is, same_back}
 use Rattle.trie_model.proofs.WalkLaws.{either}
 use Rattle.trie_model.proofs.WalkSteps.{by_covers}
 use Rattle.trie_model.proofs.CountLaws.{pair_of, list_of_map}
-use Rattle.trie_model.specs.Tries.{Form}
+use Rattle.trie_model.specs.Tries.{NodeShape}
 use Rattle.trie_model.specs.Maps.{map_of}
 use Rattle.trie_model.proofs.TrieMaps.{list_of, of_width}
 use Rattle.trie_model.proofs.GatherLaws.{listed_from}
 
--- nothing is left, so the list is empty
+-- Nothing is left, so the list is empty.
 pub list_ends : {X : Type 0} (w : ℕ) (at : Net → X → Type 0) (ps : List (Net × X)) → ((n : Net) (x : X) → at n x → ⊥) → IsListOf w at ps → ps ≡ []
 unfolding Within
 list_ends w at [] none is = refl
 list_ends w at (p ∷ ps) none is = absurd (none p.0 p.1 ((is.same p.0 p.1).0 (inl (refl, refl))))
 
--- the list begins with what is given first
-pub list_begins : {L X : Type 0} (w : ℕ) (tell : L → Told X) (old new : List L) (n : Net) (x : X) (ps : List (Net × X)) → Gives w tell old new n x → IsListOf w (Left tell old) ps → (qs : List (Net × X)) × ListGoesOn w (Left tell new) n x ps qs
+-- The list begins with what is given first.
+pub list_begins : {L X : Type 0} (w : ℕ) (tell : L → ViewValue X) (old new : List L) (n : Net) (x : X) (ps : List (Net × X)) → Gives w tell old new n
+    x → IsListOf w (Left tell old) ps → (qs : List (Net × X)) × ListGoesOn w (Left tell new) n x ps qs
 unfolding Within Ascends
 list_begins w tell old new n x [] gives is = absurd ((is.same n x).1 gives.had)
 list_begins {L} {X} w tell old new n x (p ∷ ps) gives is = (
@@ -52,19 +53,23 @@ list_begins {L} {X} w tell old new n x (p ∷ ps) gives is = (
 
 -- ---- in the form of the code
 
+-- What follows from a fact of an Ok value holds of that value.
 pub if_ok_map : {T E : Type 0} {P Q : T → Type 0} (r : Result T E) → ((x : T) → P x → Q x) → IfOk r P → IfOk r Q
 if_ok_map (Ok x) f h = f x h
 if_ok_map (Err e) f h = h
 
--- what a walk over a whole map has to give is the map's list
-pub listed : {N X : Type 0} (f : Form N X) (w : ℕ) (root : N) (at view : Net → X → Type 0) (ps : List (Net × X)) → list_of f w root ≡ ps → ((n : Net) (x : X) → at n x ↔ view n x) → ((n : Net) (x : X) → view n x ↔ Within ps n x) → IsListOf w at ps
+-- What a walk over a whole map has to give is the map's list.
+pub listed : {N X : Type 0} (f : NodeShape N X) (w : ℕ) (root : N) (at view : Net → X → Type 0) (ps : List (Net × X)) → list_of f w root ≡ ps
+    → ((n : Net) (x : X) → at n x ↔ view n x) → ((n : Net) (x : X) → view n x ↔ Within ps n x) → IsListOf w at ps
 listed f w root at view ps e a b = record {
   ascends = subst (Ascends w) e (list_of_map w (map_of f w root) (of_width f w root)).ascends;
   same = λ n x. ((λ h. (a n x).1 ((b n x).1 h)), (λ h. (b n x).0 ((a n x).0 h)));
 }
 
--- the same of a walk from a prefix on
-pub listed_on : {N X : Type 0} (f : Form N X) (w : ℕ) (root : N) (inclusive : Bool) (net : Net) (at view : Net → X → Type 0) (ps : List (Net × X)) → list_of f w root ≡ ps → ((n : Net) (x : X) → at n x ↔ (view n x × From w inclusive net n)) → ((n : Net) (x : X) → view n x ↔ Within ps n x) → IsListOf w at (pairs_from w inclusive net ps)
+-- The same of a walk from a prefix on.
+pub listed_on : {N X : Type 0} (f : NodeShape N X) (w : ℕ) (root : N) (inclusive : Bool) (net : Net) (at view : Net → X → Type 0)
+    (ps : List (Net × X)) → list_of f w root ≡ ps → ((n : Net) (x : X) → at n x ↔ (view n x × From w inclusive net n))
+    → ((n : Net) (x : X) → view n x ↔ Within ps n x) → IsListOf w at (pairs_from w inclusive net ps)
 listed_on f w root inclusive net at view ps e a b =
     listed_from w inclusive net at ps (subst (Ascends w) e (list_of_map w (map_of f w root) (of_width f w root)).ascends) (λ n x. (
       (λ h. let r = (a n x).0 h in ((b n x).0 r.0, r.1)),

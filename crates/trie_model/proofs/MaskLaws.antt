@@ -7,8 +7,8 @@ use Rattle.std.proofs.Math.Nat.{div-div-eq-div-mul, mul-div_cancel, add-mul, mul
 use Rattle.trie_model.specs.Nets.{Net, IsNet, covers, masked}
 use Rattle.trie_model.specs.Views.{level_of, net_of_bit}
 use Rattle.trie_model.proofs.Places.{and_left, and_right, both_hold, elim-false, not_true, times_cancel, masked_less, level_le}
-use Rattle.trie_model.specs.Heap.{level_at, bits_toward, data_bit_of, five_bits, all_under, ltb, net_of_spot, inside, row_below, rows_below, children_below, bits_above, prefix_net, child_at}
-use Rattle.trie_model.proofs.HeapLaws.{under, under2, if_then, by_if, lt-ltb, ltb-lt, power_split, quotient, net_back, five_level, five_small, mod_div, masked_level, level_child}
+use Rattle.trie_model.specs.Spots.{level_at, bits_toward, data_bit_of, five_bits, all_under, ltb, net_of_spot, inside, row_below, rows_below, children_below, bits_above, prefix_net, child_at}
+use Rattle.trie_model.proofs.SpotLaws.{under, under2, if_then, by_if, lt-ltb, ltb-lt, power_split, quotient, net_back, five_level, five_small, mod_div, masked_level, level_child}
 
 -- ---- tables
 
@@ -35,7 +35,10 @@ level_table : all_under 31 (λ b. eqb (level_at (b + 1)) (level_of b)) ≡ true
 unfolding all_under
 level_table = refl
 
-inside_table : all_under 64 (λ h. all_under 64 (λ k. if_then (ltb 0 h && ltb 0 k && leb (level_at h) (level_at k)) (eqb ((k - 2 ^ level_at k) / 2 ^ (level_at k - level_at h)) (k / 2 ^ (level_at k - level_at h) - 2 ^ level_at h) && leb (2 ^ level_at h) (k / 2 ^ (level_at k - level_at h))))) ≡ true
+inside_table : all_under 64 (λ h. all_under 64
+    (λ k. if_then (ltb 0 h && ltb 0 k && leb (level_at h) (level_at k))
+    (eqb ((k - 2 ^ level_at k) / 2 ^ (level_at k - level_at h)) (k / 2 ^ (level_at k - level_at h) - 2 ^ level_at h) && leb (2 ^ level_at h)
+    (k / 2 ^ (level_at k - level_at h))))) ≡ true
 unfolding all_under
 inside_table = refl
 
@@ -46,33 +49,41 @@ power_table = refl
 positive : (h : ℕ) → 1 ≤ h → ltb 0 h ≡ true
 positive h p = lt-ltb 0 h p
 
+-- The data bits below a spot are those of the spots inside it.
 pub rows_are : (h b : ℕ) → 1 ≤ h → h < 32 → b < 31 → bit_at (rows_below h) b ≡ cond (inside h (b + 1)) 1 0
 rows_are h b p lt m = eqb-true _ _ (by_if _ _ (under2 32 31 (λ h b. if_then (ltb 0 h) (eqb (bit_at (rows_below h) b) (one_if (inside h (b + 1))))) rows_table h b lt m) (positive h p))
 
+-- The children below a spot are those whose spots lie inside it.
 pub children_are : (h c : ℕ) → 1 ≤ h → h < 32 → c < 32 → bit_at (children_below h) c ≡ cond (inside h (32 + c)) 1 0
 children_are h c p lt m = eqb-true _ _ (by_if _ _ (under2 32 32 (λ h c. if_then (ltb 0 h) (eqb (bit_at (children_below h) c) (one_if (inside h (32 + c))))) children_table h c lt m) (positive h p))
 
+-- The data bits above a spot are those of the spots that it lies in.
 pub above_are : (h b : ℕ) → 1 ≤ h → h < 64 → b < 31 → bit_at (bits_above h) b ≡ cond (inside (b + 1) h) 1 0
 above_are h b p lt m = eqb-true _ _ (by_if _ _ (under2 64 31 (λ h b. if_then (ltb 0 h) (eqb (bit_at (bits_above h) b) (one_if (inside (b + 1) h)))) above_table h b lt m) (positive h p))
 
 size_row : (h : ℕ) → 1 ≤ h → h < 64 → (ltb (bits_above h) 2147483648 && if_then (ltb h 32) (ltb (rows_below h) 2147483648 && ltb (children_below h) 4294967296)) ≡ true
 size_row h p lt = by_if _ _ (under 64 (λ h. if_then (ltb 0 h) (ltb (bits_above h) 2147483648 && if_then (ltb h 32) (ltb (rows_below h) 2147483648 && ltb (children_below h) 4294967296))) size_table h lt) (positive h p)
 
+-- The data bits above a spot fit 31 bits.
 pub above_fit : (h : ℕ) → 1 ≤ h → h < 64 → bits_above h < 2147483648
 above_fit h p lt = ltb-lt _ _ (and_left _ _ (size_row h p lt))
 
 below_row : (h : ℕ) → 1 ≤ h → h < 32 → (ltb (rows_below h) 2147483648 && ltb (children_below h) 4294967296) ≡ true
 below_row h p lt = by_if _ _ (and_right _ _ (size_row h p (omega arith))) (lt-ltb h 32 lt)
 
+-- The data bits below a spot fit 31 bits.
 pub rows_fit : (h : ℕ) → 1 ≤ h → h < 32 → rows_below h < 2147483648
 rows_fit h p lt = ltb-lt _ _ (and_left _ _ (below_row h p lt))
 
+-- The children below a spot fit 32 bits.
 pub children_fit : (h : ℕ) → 1 ≤ h → h < 32 → children_below h < 4294967296
 children_fit h p lt = ltb-lt _ _ (and_right _ _ (below_row h p lt))
 
+-- A data bit has the level of its spot.
 pub level_same : (b : ℕ) → b < 31 → level_at (b + 1) ≡ level_of b
 level_same b h = eqb-true _ _ (under 31 _ level_table b h)
 
+-- The prefix of a data bit is that of its spot.
 pub spot_net : (w d p b : ℕ) → b < 31 → net_of_spot w d p (b + 1) ≡ net_of_bit w d p b
 spot_net w d p b h =
     let f : ℕ → Net = λ k. record { bits = masked w p d + (b + 1 - 2 ^ k) * 2 ^ (w - (d + k)); len = d + k } in
@@ -87,7 +98,7 @@ eqb_same x y a b f g false e = not_true _ (λ t. elim-false (sym e ∙ eq-eqb a 
 cancel_base : (m x y u : ℕ) → 0 < u → m + x * u ≡ m + y * u → x ≡ y
 cancel_base m x y u pos e = times_cancel x y u pos (let q : x * u ≡ y * u = omega arith in q)
 
--- the number of the spot k at the level of h
+-- The number of the spot k at the level of h.
 at_level : (w d l k p j : ℕ) → l ≤ k → d + k ≤ w → masked w (masked w p d + j * 2 ^ (w - (d + k))) (d + l) ≡ masked w p d + j / 2 ^ (k - l) * 2 ^ (w - (d + l))
 at_level w d l k p j le fits =
     let u : ℕ = 2 ^ (w - (d + k)) in
@@ -107,9 +118,15 @@ at_level w d l k p j le fits =
     ∙ ap (λ x. x + j / v * (u * v)) (sym base)
     ∙ ap (λ x. r * 2 ^ (w - d) + j / v * x) (sym lower)
 
-inside_row : (h k : ℕ) → 1 ≤ h → h < 64 → 1 ≤ k → k < 64 → level_at h ≤ level_at k → (eqb ((k - 2 ^ level_at k) / 2 ^ (level_at k - level_at h)) (k / 2 ^ (level_at k - level_at h) - 2 ^ level_at h) && leb (2 ^ level_at h) (k / 2 ^ (level_at k - level_at h))) ≡ true
-inside_row h k ph h64 pk k64 le = by_if _ _ (under2 64 64 (λ h k. if_then (ltb 0 h && ltb 0 k && leb (level_at h) (level_at k)) (eqb ((k - 2 ^ level_at k) / 2 ^ (level_at k - level_at h)) (k / 2 ^ (level_at k - level_at h) - 2 ^ level_at h) && leb (2 ^ level_at h) (k / 2 ^ (level_at k - level_at h)))) inside_table h k h64 k64) (both_hold _ _ (both_hold _ _ (positive h ph) (positive k pk)) (le-leb _ _ le))
+inside_row : (h k : ℕ) → 1 ≤ h → h < 64 → 1 ≤ k → k < 64 → level_at h ≤ level_at k
+    → (eqb ((k - 2 ^ level_at k) / 2 ^ (level_at k - level_at h)) (k / 2 ^ (level_at k - level_at h) - 2 ^ level_at h) && leb (2 ^ level_at h)
+    (k / 2 ^ (level_at k - level_at h))) ≡ true
+inside_row h k ph h64 pk k64 le = by_if _ _ (under2 64 64
+    (λ h k. if_then (ltb 0 h && ltb 0 k && leb (level_at h) (level_at k))
+    (eqb ((k - 2 ^ level_at k) / 2 ^ (level_at k - level_at h)) (k / 2 ^ (level_at k - level_at h) - 2 ^ level_at h) && leb (2 ^ level_at h)
+    (k / 2 ^ (level_at k - level_at h)))) inside_table h k h64 k64) (both_hold _ _ (both_hold _ _ (positive h ph) (positive k pk)) (le-leb _ _ le))
 
+-- A spot is at least the first spot of its level.
 pub power_le : (h : ℕ) → 1 ≤ h → h < 64 → 2 ^ level_at h ≤ h
 power_le h p lt = leb-true _ _ (and_left _ _ (by_if _ _ (under 64 (λ h. if_then (ltb 0 h) (leb (2 ^ level_at h) h && leb (level_at h) 5)) power_table h lt) (positive h p)))
 
@@ -135,6 +152,7 @@ by_level w d p h k ph h64 pk k64 fits false e =
     ap (λ b. b && eqb (masked w (net_of_spot w d p k).bits (d + level_at h)) (net_of_spot w d p h).bits)
     (not_true (leb (d + level_at h) (d + level_at k)) (λ t. elim-false (sym e ∙ le-leb _ _ (let le = leb-true _ _ t in let x : level_at h ≤ level_at k = omega arith in x))))
 
+-- A spot lies inside another exactly where its prefix is contained in the other's.
 pub inside_covers : (w d p h k : ℕ) → 1 ≤ h → h < 64 → 1 ≤ k → k < 64 → d + level_at k ≤ w → covers w (net_of_spot w d p h) (net_of_spot w d p k) ≡ inside h k
 inside_covers w d p h k ph h64 pk k64 fits = by_level w d p h k ph h64 pk k64 fits (leb (level_at h) (level_at k)) refl
 
@@ -148,11 +166,15 @@ unfolding all_under
 row_table = refl
 
 row_row : (h r : ℕ) → 1 ≤ h → h < 32 → r < 5 → h * 2 ^ r % 4294967296 < 32 → (ltb (row_code h r) 4294967296 && eqb (row_code h r) (row_below h r)) ≡ true
-row_row h r p lt m small = by_if _ _ (under2 32 5 (λ h r. if_then (ltb 0 h && ltb (h * 2 ^ r % 4294967296) 32) (ltb (row_code h r) 4294967296 && eqb (row_code h r) (row_below h r))) row_table h r lt m) (both_hold _ _ (positive h p) (lt-ltb _ _ small))
+row_row h r p lt m small = by_if _ _ (under2 32 5
+    (λ h r. if_then (ltb 0 h && ltb (h * 2 ^ r % 4294967296) 32) (ltb (row_code h r) 4294967296 && eqb (row_code h r) (row_below h r))) row_table h r
+    lt m) (both_hold _ _ (positive h p) (lt-ltb _ _ small))
 
+-- The word of a row below a spot fits 32 bits.
 pub row_fits : (h r : ℕ) → 1 ≤ h → h < 32 → r < 5 → h * 2 ^ r % 4294967296 < 32 → row_code h r < 4294967296
 row_fits h r p lt m small = ltb-lt _ _ (and_left _ _ (row_row h r p lt m small))
 
+-- The word of a row below a spot has the data bits of the row.
 pub row_is : (h r : ℕ) → 1 ≤ h → h < 32 → r < 5 → h * 2 ^ r % 4294967296 < 32 → row_code h r ≡ row_below h r
 row_is h r p lt m small = eqb-true _ _ (and_right _ _ (row_row h r p lt m small))
 
@@ -166,14 +188,17 @@ child_code_table = refl
 child_row : (h : ℕ) → 1 ≤ h → h < 32 → (ltb (child_code h (level_at h)) 4294967296 && eqb (child_code h (level_at h)) (children_below h)) ≡ true
 child_row h p lt = by_if _ _ (under 32 (λ h. if_then (ltb 0 h) (ltb (child_code h (level_at h)) 4294967296 && eqb (child_code h (level_at h)) (children_below h))) child_code_table h lt) (positive h p)
 
+-- The word of the children below a spot fits 32 bits.
 pub child_fits : (h l : ℕ) → 1 ≤ h → h < 32 → l ≡ level_at h → child_code h l < 4294967296
 child_fits h l p lt e = rw e (ltb-lt _ _ (and_left _ _ (child_row h p lt)))
 
+-- The word of the children below a spot has these children.
 pub child_is : (h l : ℕ) → 1 ≤ h → h < 32 → l ≡ level_at h → child_code h l ≡ children_below h
 child_is h l p lt e = rw e (eqb-true _ _ (and_right _ _ (child_row h p lt)))
 
 -- ---- the five bits by a shift to the left
 
+-- Two shifts of a word give the five bits after a depth.
 pub five_shift : (w d n : ℕ) → 5 ≤ w → d ≤ w → n * 2 ^ d % 2 ^ w / 2 ^ (w - 5) ≡ five_bits w d n
 five_shift w d n h le =
     let top : 2 ^ w ≡ 32 * 2 ^ (w - 5) = ap (λ x. 2 ^ x) (let e : w ≡ 5 + (w - 5) = omega arith in e) ∙ pow-add 2 5 (w - 5) in
@@ -189,10 +214,11 @@ five_shift w d n h le =
 
 -- ---- a data bit of the five bits
 
+-- A power of 2 below the fifth fits five bits.
 pub power_small : (l : ℕ) → l < 5 → 2 ^ l < 32
 power_small l h = pow_below l 5 h
 
--- the code's form
+-- The code's form.
 pub bit_is : (w d len n f : ℕ) → d ≤ len → len ≤ d + 4 → len ≤ w → f ≡ five_bits w d n → 1 * 2 ^ (len - d) % 4294967296 - 1 + f / 2 ^ (5 - (len - d)) ≡ data_bit_of w d n len
 bit_is w d len n f low high end e =
     let l : ℕ = len - d in
@@ -201,6 +227,7 @@ bit_is w d len n f low high end e =
     ∙ ap (λ x. 2 ^ l - 1 + x / 2 ^ (5 - l)) e
     ∙ ap (λ x. 2 ^ l - 1 + x) (five_level w d l n (omega arith) (omega arith))
 
+-- The first bits of a number are a prefix without host bits.
 pub masked_net : (w len n : ℕ) → len ≤ w → n < 2 ^ w → IsNet w (prefix_net w n len)
 masked_net w len n le lt = record {
   len_fits = le;
@@ -208,7 +235,7 @@ masked_net w len n le lt = record {
   no_rest = masked_less w len len n le (omega arith);
 }
 
--- the network of a key's data bit
+-- The network of a key's data bit.
 pub data_bit_net : (w d len n : ℕ) → d ≤ len → len ≤ d + 4 → len ≤ w → n < 2 ^ w → net_of_bit w d n (data_bit_of w d n len) ≡ prefix_net w n len
 data_bit_net w d len n low high end fits =
     let l : ℕ = len - d in
@@ -222,9 +249,11 @@ code_table : all_under 6 (λ r. ltb (1 * 2 ^ r % 4294967296) 64 && leb 1 (1 * 2 
 unfolding all_under
 code_table = refl
 
+-- A one shifted by up to five places is below 64.
 pub shift_small : (r : ℕ) → r < 6 → 1 * 2 ^ r % 4294967296 < 64
 shift_small r h = ltb-lt _ _ (and_left _ _ (under 6 (λ r. ltb (1 * 2 ^ r % 4294967296) 64 && leb 1 (1 * 2 ^ (1 * 2 ^ r % 4294967296) % 18446744073709551616)) code_table r h))
 
+-- A one shifted by a power of 2 up to 32 is at least 1.
 pub ones_pos : (r : ℕ) → r < 6 → 1 ≤ 1 * 2 ^ (1 * 2 ^ r % 4294967296) % 18446744073709551616
 ones_pos r h = leb-true _ _ (and_right _ _ (under 6 (λ r. ltb (1 * 2 ^ r % 4294967296) 64 && leb 1 (1 * 2 ^ (1 * 2 ^ r % 4294967296) % 18446744073709551616)) code_table r h))
 
@@ -232,22 +261,26 @@ bit_code_table : all_under 5 (λ l. all_under 32 (λ f. ltb (1 * 2 ^ l % 4294967
 unfolding all_under
 bit_code_table = refl
 
+-- The code of a data bit is below 31.
 pub bit_code_small : (l f : ℕ) → l < 5 → f < 32 → 1 * 2 ^ l % 4294967296 - 1 + f / 2 ^ (5 - l) < 31
 bit_code_small l f h k = ltb-lt _ _ (under2 5 32 (λ l f. ltb (1 * 2 ^ l % 4294967296 - 1 + f / 2 ^ (5 - l)) 31) bit_code_table l f h k)
 
 -- ---- the masks in terms of networks
 
+-- The prefix of a child's spot is the child's place.
 pub spot_child : (w d p c : ℕ) → c < 32 → net_of_spot w d p (32 + c) ≡ child_at w d p c
 spot_child w d p c h =
     let f : ℕ → Net = λ k. record { bits = masked w p d + (32 + c - 2 ^ k) * 2 ^ (w - (d + k)); len = d + k } in
     ap f (level_child c h) ∙ ap (λ x. record { bits = masked w p d + x * 2 ^ (w - (d + 5)); len = d + 5 }) (let e : 32 + c - 32 ≡ c = omega arith in e)
 
+-- A data bit lies inside another exactly where its prefix is contained in the other's.
 pub bit_in_bit : (w d n len r bit : ℕ) → r < 31 → net_of_bit w d n r ≡ prefix_net w n len → bit < 31 → d + level_of bit ≤ w → inside (r + 1) (bit + 1) ≡ covers w (prefix_net w n len) (net_of_bit w d n bit)
 bit_in_bit w d n len r bit hr e hb fits =
     sym (inside_covers w d n (r + 1) (bit + 1) (omega arith) (omega arith) (omega arith) (omega arith) (let s = level_same bit hb in let q : d + level_at (bit + 1) ≤ w = omega arith in q))
     ∙ ap (λ p. covers w p (net_of_spot w d n (bit + 1))) (spot_net w d n r hr ∙ e)
     ∙ ap (covers w (prefix_net w n len)) (spot_net w d n bit hb)
 
+-- A child lies inside a data bit exactly where its place is contained in the bit's prefix.
 pub child_in_bit : (w d n len r c : ℕ) → r < 31 → net_of_bit w d n r ≡ prefix_net w n len → c < 32 → d + 5 ≤ w → inside (r + 1) (32 + c) ≡ covers w (prefix_net w n len) (child_at w d n c)
 child_in_bit w d n len r c hr e hc fits =
     sym (inside_covers w d n (r + 1) (32 + c) (omega arith) (omega arith) (omega arith) (omega arith) (let s = level_child c hc in let q : d + level_at (32 + c) ≤ w = omega arith in q))
@@ -258,13 +291,15 @@ covers_by : (w : ℕ) (a : Net) (n k : ℕ) (b : Bool) → leb a.len k ≡ b →
 covers_by w a n k true e h = ap (λ x. eqb x a.bits) (masked_less w k a.len n h (leb-true _ _ e))
 covers_by w a n k false e h = refl
 
--- a network contains a key where it contains the masked key
+-- A network contains a key where it contains the masked key.
 pub covers_masked : (w : ℕ) (a : Net) (n k : ℕ) → k ≤ w → covers w a (prefix_net w n k) ≡ covers w a (record { bits = n; len = k })
 covers_masked w a n k h = covers_by w a n k (leb a.len k) refl h
 
+-- Whether a prefix contains a longer one depends on the bits alone.
 pub covers_long : (w : ℕ) (a : Net) (n k j : ℕ) → a.len ≤ k → a.len ≤ j → covers w a (record { bits = n; len = k }) ≡ covers w a (record { bits = n; len = j })
 covers_long w a n k j p q = ap (λ b. b && eqb (masked w n a.len) a.bits) (le-leb _ _ p ∙ sym (le-leb _ _ q))
 
+-- A data bit lies above another exactly where its prefix contains the other's.
 pub bit_above_bit : (w d n len r bit : ℕ) → r < 31 → net_of_bit w d n r ≡ prefix_net w n len → len ≤ w → bit < 31 → inside (bit + 1) (r + 1) ≡ covers w (net_of_bit w d n bit) (record { bits = n; len = len })
 bit_above_bit w d n len r bit hr e end hb =
     let level : d + level_of r ≡ len = ap (λ p. p.len) e in
@@ -273,6 +308,7 @@ bit_above_bit w d n len r bit hr e end hb =
     ∙ ap (covers w (net_of_bit w d n bit)) (spot_net w d n r hr ∙ e)
     ∙ covers_masked w (net_of_bit w d n bit) n len end
 
+-- A data bit lies above a child exactly where its prefix contains a key that goes through the child.
 pub bit_above_child : (w d n len f bit : ℕ) → f ≡ five_bits w d n → d + 5 ≤ len → len ≤ w → bit < 31 → inside (bit + 1) (32 + f) ≡ covers w (net_of_bit w d n bit) (record { bits = n; len = len })
 bit_above_child w d n len f bit e deep end hb =
     let small : f < 32 = rw e (five_small w d n) in
@@ -289,6 +325,7 @@ bit_above_child w d n len f bit e deep end hb =
 
 -- ---- masks of a data bit, in terms of prefixes
 
+-- The data bits below a data bit are those whose prefixes its prefix contains.
 pub for_bit_rows : (w d p bit b : ℕ) → bit < 31 → b < 31 → d + level_of b ≤ w → bit_at (rows_below (bit + 1)) b ≡ cond (covers w (net_of_bit w d p bit) (net_of_bit w d p b)) 1 0
 for_bit_rows w d p bit b hr hb fits =
     rows_are (bit + 1) b (omega arith) (omega arith) hb
@@ -297,6 +334,7 @@ for_bit_rows w d p bit b hr hb fits =
     ∙ ap (λ n. covers w n (net_of_spot w d p (b + 1))) (spot_net w d p bit hr)
     ∙ ap (covers w (net_of_bit w d p bit)) (spot_net w d p b hb))
 
+-- The children below a data bit are those whose places its prefix contains.
 pub for_bit_children : (w d p bit c : ℕ) → bit < 31 → c < 32 → d + 5 ≤ w → bit_at (children_below (bit + 1)) c ≡ cond (covers w (net_of_bit w d p bit) (child_at w d p c)) 1 0
 for_bit_children w d p bit c hr hc fits =
     children_are (bit + 1) c (omega arith) (omega arith) hc
@@ -305,10 +343,11 @@ for_bit_children w d p bit c hr hc fits =
     ∙ ap (λ n. covers w n (net_of_spot w d p (32 + c))) (spot_net w d p bit hr)
     ∙ ap (covers w (net_of_bit w d p bit)) (spot_child w d p c hc))
 
+-- The five bits after a depth lead to the child.
 pub five_toward : (w d n f : ℕ) → f ≡ five_bits w d n → d + 5 ≤ w → f ≡ bits_toward w d 5 n
 five_toward w d n f e fits = e ∙ sym (div-one (five_bits w d n)) ∙ five_level w d 5 n (omega arith) fits
 
--- dropping the host bits twice
+-- Dropping the host bits twice.
 pub prefix_masked : (w n len x : ℕ) → len ≤ w → x ≡ masked w n len → prefix_net w x len ≡ prefix_net w n len
 prefix_masked w n len x fits e =
     ap (λ y. record { bits = y; len = len }) (ap (λ y. masked w y len) e ∙ masked_less w len len n fits (let le : len ≤ len = omega arith in le))
@@ -317,10 +356,11 @@ prefix_masked w n len x fits e =
 pub shl_level : (l : ℕ) → l < 5 → 1 * 2 ^ l % 4294967296 ≡ 2 ^ l
 shl_level l h = let small = power_small l h in omega arith
 
+-- Sums of equal parts are equal.
 pub sum_is : (a b c d e p q r s t : ℕ) → p ≡ a → q ≡ b → r ≡ c → s ≡ d → t ≡ e → p + q + r + s + t ≡ a + b + c + d + e
 sum_is a b c d e p q r s t f g h i j = omega arith
 
--- one prefix contains another where the other's bits begin with its own
+-- One prefix contains another where the other's bits begin with its own.
 pub covers_first : (w p l q k x y : ℕ) → l ≤ k → k ≤ w → x ≡ masked w q l → y ≡ masked w p l → (x ≡ y → covers w (prefix_net w p l) (prefix_net w q k) ≡ true) × (covers w (prefix_net w p l) (prefix_net w q k) ≡ true → x ≡ y)
 covers_first w p l q k x y le fits e f =
     let less = masked_less w k l q fits le in (

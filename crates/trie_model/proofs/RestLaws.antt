@@ -6,11 +6,11 @@ use Rattle.std.proofs.lemmas.Bool.{eqb-true, leb-true, le-leb}
 use Rattle.std.proofs.lemmas.Nat.{and_le_l}
 use Rattle.std.proofs.lemmas.Nat.Bits.{bit_at_and, bit_at-lt, bit_at_above}
 use Rattle.trie_model.specs.Nets.{Net, covers}
-use Rattle.trie_model.specs.Heap.{rank_at, spot_of, next_spot, all_under, ltb}
-use Rattle.trie_model.specs.Views.{Told, IsView, TookData, TookChild, IsChild, depth_at, data_net, child_net, child_toward}
+use Rattle.trie_model.specs.Spots.{rank_at, spot_of, next_spot, all_under, ltb}
+use Rattle.trie_model.specs.Views.{ViewValue, IsView, TookData, TookChild, IsChild, depth_at, data_net, child_net, child_toward}
 use Rattle.trie_model.specs.Walks.{Ahead, Vacant, bits_where, data_from, children_from, rest}
 use Rattle.trie_model.proofs.Places.{and_left, and_right, elim-false, depth_le, level_le, bit_below, covers_len, covers_way, covers_toward, toward_covers}
-use Rattle.trie_model.proofs.HeapLaws.{under, under2, if_then, by_if, ltb-lt, bit_back}
+use Rattle.trie_model.proofs.SpotLaws.{under, under2, if_then, by_if, ltb-lt, bit_back}
 use Rattle.trie_model.proofs.LongestLaws.{one_both, both_one, cond_is}
 use Rattle.trie_model.proofs.TrieLaws.{same_net_is}
 use Rattle.trie_model.proofs.SlotLaws.{less_or}
@@ -33,7 +33,7 @@ child_table = refl
 children_from_bit : (h c : ℕ) → h ≤ 64 → c < 32 → bit_at (children_from h) c ≡ cond (leb (rank_at h) (rank_at (32 + c))) 1 0
 children_from_bit h c p q = eqb-true _ _ (under2 65 32 (λ h c. eqb (bit_at (children_from h) c) (cond (leb (rank_at h) (rank_at (32 + c))) 1 0)) child_table h c (omega arith) q)
 
--- past a data bit the children are the same, and past a child the data bits
+-- Past a data bit the children are the same, and past a child the data bits.
 same_children : all_under 31 (λ b. eqb (children_from (next_spot (b + 1))) (children_from (b + 1))) ≡ true
 unfolding all_under bits_where children_from
 same_children = refl
@@ -42,12 +42,15 @@ same_data : all_under 32 (λ c. eqb (data_from (next_spot (32 + c))) (data_from 
 unfolding all_under bits_where data_from
 same_data = refl
 
-other_children : all_under 32 (λ c. ltb (children_from (32 + c)) (2 ^ 32) && ltb (children_from (next_spot (32 + c))) (2 ^ 32) && all_under 32 (λ b. if_then (not (eqb b c)) (eqb (bit_at (children_from (next_spot (32 + c))) b) (bit_at (children_from (32 + c)) b)))) ≡ true
+other_children : all_under 32 (λ c. ltb (children_from (32 + c)) (2 ^ 32) && ltb (children_from (next_spot (32 + c))) (2 ^ 32) && all_under 32
+    (λ b. if_then (not (eqb b c)) (eqb (bit_at (children_from (next_spot (32 + c))) b) (bit_at (children_from (32 + c)) b)))) ≡ true
 unfolding all_under bits_where children_from
 other_children = refl
 
-other_row : (c : ℕ) → c < 32 → (ltb (children_from (32 + c)) (2 ^ 32) && ltb (children_from (next_spot (32 + c))) (2 ^ 32) && all_under 32 (λ b. if_then (not (eqb b c)) (eqb (bit_at (children_from (next_spot (32 + c))) b) (bit_at (children_from (32 + c)) b)))) ≡ true
-other_row c lt = under 32 (λ c. ltb (children_from (32 + c)) (2 ^ 32) && ltb (children_from (next_spot (32 + c))) (2 ^ 32) && all_under 32 (λ b. if_then (not (eqb b c)) (eqb (bit_at (children_from (next_spot (32 + c))) b) (bit_at (children_from (32 + c)) b)))) other_children c lt
+other_row : (c : ℕ) → c < 32 → (ltb (children_from (32 + c)) (2 ^ 32) && ltb (children_from (next_spot (32 + c))) (2 ^ 32) && all_under 32
+    (λ b. if_then (not (eqb b c)) (eqb (bit_at (children_from (next_spot (32 + c))) b) (bit_at (children_from (32 + c)) b)))) ≡ true
+other_row c lt = under 32 (λ c. ltb (children_from (32 + c)) (2 ^ 32) && ltb (children_from (next_spot (32 + c))) (2 ^ 32) && all_under 32
+    (λ b. if_then (not (eqb b c)) (eqb (bit_at (children_from (next_spot (32 + c))) b) (bit_at (children_from (32 + c)) b)))) other_children c lt
 
 not_same : (b c : ℕ) (t : Bool) → eqb b c ≡ t → b ≢ c → not t ≡ true
 not_same b c true e ne = absurd (ne (eqb-true b c e))
@@ -57,8 +60,11 @@ other_child : (c b : ℕ) → c < 32 → b ≢ c → bit_at (children_from (next
 other_child c b lt ne = by (less_or b 32)
   where
     by : (b < 32) ⊎ (32 ≤ b) → bit_at (children_from (next_spot (32 + c))) b ≡ bit_at (children_from (32 + c)) b
-    by (inl small) = eqb-true _ _ (by_if _ _ (under 32 (λ b. if_then (not (eqb b c)) (eqb (bit_at (children_from (next_spot (32 + c))) b) (bit_at (children_from (32 + c)) b))) (and_right _ _ (other_row c lt)) b small) (not_same b c (eqb b c) refl ne))
-    by (inr high) = bit_at_above (children_from (next_spot (32 + c))) 32 b (ltb-lt _ _ (and_right _ _ (and_left _ _ (other_row c lt)))) high ∙ sym (bit_at_above (children_from (32 + c)) 32 b (ltb-lt _ _ (and_left _ _ (and_left _ _ (other_row c lt)))) high)
+    by (inl small) = eqb-true _ _ (by_if _ _ (under 32
+        (λ b. if_then (not (eqb b c)) (eqb (bit_at (children_from (next_spot (32 + c))) b) (bit_at (children_from (32 + c)) b)))
+        (and_right _ _ (other_row c lt)) b small) (not_same b c (eqb b c) refl ne))
+    by (inr high) = bit_at_above (children_from (next_spot (32 + c))) 32 b (ltb-lt _ _ (and_right _ _ (and_left _ _ (other_row c lt)))) high ∙ sym
+        (bit_at_above (children_from (32 + c)) 32 b (ltb-lt _ _ (and_left _ _ (and_left _ _ (other_row c lt)))) high)
 
 both_bits : (m k b : ℕ) → bit_at (bit_and m k) b ≡ 1 → (bit_at m b ≡ 1) × (bit_at k b ≡ 1)
 both_bits m k b h = one_both _ _ (sym (bit_at_and m k b) ∙ h) (bit_at-lt m b) (bit_at-lt k b)
@@ -66,8 +72,8 @@ both_bits m k b h = one_both _ _ (sym (bit_at_and m k b) ∙ h) (bit_at-lt m b) 
 and_bits : (m k b : ℕ) → bit_at m b ≡ 1 → bit_at k b ≡ 1 → bit_at (bit_and m k) b ≡ 1
 and_bits m k b p q = bit_at_and m k b ∙ both_one _ _ p q
 
--- the spot of a data bit's pair is that of the bit
-bit_spot : {X : Type 0} (w : ℕ) (t : Told X) → IsView w t → (bit : ℕ) (x : X) → bit < 31 → t.at (data_net w t.place bit) x → spot_of w (depth_at t.place.len) (data_net w t.place bit) ≡ bit + 1
+-- The spot of a data bit's pair is that of the bit.
+bit_spot : {X : Type 0} (w : ℕ) (t : ViewValue X) → IsView w t → (bit : ℕ) (x : X) → bit < 31 → t.at (data_net w t.place bit) x → spot_of w (depth_at t.place.len) (data_net w t.place bit) ≡ bit + 1
 bit_spot w t ok bit x lt p =
     let d : ℕ = depth_at t.place.len in
     let level = level_le bit in
@@ -75,7 +81,8 @@ bit_spot w t ok bit x lt p =
 
 -- ---- the pairs from a spot on are a view
 
-pub rest_view : {X : Type 0} (w : ℕ) (t : Told X) (h : ℕ) → h ≤ 64 → IsView w t → IsView w (rest w t h)
+-- What is left of a view from a spot on keeps the laws of views.
+pub rest_view : {X : Type 0} (w : ℕ) (t : ViewValue X) (h : ℕ) → h ≤ 64 → IsView w t → IsView w (rest w t h)
 rest_view w t h le ok =
     let d : ℕ = depth_at t.place.len in
     record {
@@ -96,16 +103,19 @@ rest_view w t h le ok =
       deep = λ bit set. ok.deep bit (both_bits t.child_bits (children_from h) bit set).0;
     }
 
-pub rest_ahead : {X : Type 0} (w : ℕ) (t : Told X) (h : ℕ) → Ahead w (rest w t h) h
+-- Nothing that is left from a spot on lies before it.
+pub rest_ahead : {X : Type 0} (w : ℕ) (t : ViewValue X) (h : ℕ) → Ahead w (rest w t h) h
 unfolding Ahead
 rest_ahead w t h n x a = a.1
 
-pub rest_start : {X : Type 0} (w : ℕ) (t : Told X) (n : Net) (x : X) → (rest w t 1).at n x ↔ t.at n x
+-- From the first spot on all is left.
+pub rest_start : {X : Type 0} (w : ℕ) (t : ViewValue X) (n : Net) (x : X) → (rest w t 1).at n x ↔ t.at n x
 rest_start w t n x = ((λ a. a.0), (λ a. (a, (let le : 0 ≤ rank_at (spot_of w (depth_at t.place.len) n) = omega arith in le))))
 
 -- ---- one spot on
 
-pub rest_vacant : {X : Type 0} (w : ℕ) (t : Told X) (h : ℕ) → IsView w t → 1 ≤ h → h < 64 → Vacant t h → (n : Net) (x : X) → (rest w t (next_spot h)).at n x ↔ (rest w t h).at n x
+-- Where nothing stands at a spot, the same is left from the next one on.
+pub rest_vacant : {X : Type 0} (w : ℕ) (t : ViewValue X) (h : ℕ) → IsView w t → 1 ≤ h → h < 64 → Vacant t h → (n : Net) (x : X) → (rest w t (next_spot h)).at n x ↔ (rest w t h).at n x
 unfolding Ahead
 rest_vacant {X} w t h ok ph hh vacant n x = (
   (λ a. (a.0, (let more = rank_more h ph hh in let le = a.1 in omega (arith, more, le)))),
@@ -114,15 +124,20 @@ rest_vacant {X} w t h ok ph hh vacant n x = (
   where
     ahead : (h < 32) ⊎ (32 ≤ h) → Ahead w (rest w t h) (next_spot h)
     ahead (inl lt) = unset_data w h (h - 1) (rest w t h) (rest_view w t h (omega (arith, hh)) ok) (rest_ahead w t h) (omega (arith, ph)) (omega (arith, ph, lt)) (λ set. vacant.0 lt (both_bits t.data_bits (data_from h) (h - 1) set).0)
-    ahead (inr le) = unset_child w h (h - 32) (rest w t h) (rest_view w t h (omega (arith, hh)) ok) (rest_ahead w t h) (omega (arith, le)) (omega (arith, le, hh)) (λ set. vacant.1 le (both_bits t.child_bits (children_from h) (h - 32) set).0)
+    ahead (inr le) = unset_child w h (h - 32) (rest w t h) (rest_view w t h (omega (arith, hh)) ok) (rest_ahead w t h) (omega (arith, le))
+        (omega (arith, le, hh)) (λ set. vacant.1 le (both_bits t.child_bits (children_from h) (h - 32) set).0)
 
-pub rest_item : {X : Type 0} (w : ℕ) (t : Told X) (h bit : ℕ) (x : X) → IsView w t → h ≡ bit + 1 → bit < 31 → t.at (data_net w t.place bit) x → (rest w t h).at (data_net w t.place bit) x
+-- The item at a spot is left from that spot on.
+pub rest_item : {X : Type 0} (w : ℕ) (t : ViewValue X) (h bit : ℕ) (x : X) → IsView w t → h ≡ bit + 1 → bit < 31 → t.at (data_net w t.place bit) x → (rest w t h).at (data_net w t.place bit) x
 rest_item w t h bit x ok e lt a = (a, (let s = ap rank_at (bit_spot w t ok bit x lt a) in let g = ap rank_at e in omega (arith, s, g)))
 
-pub rest_data : {X : Type 0} (w : ℕ) (t u : Told X) (h bit : ℕ) → IsView w t → h ≡ bit + 1 → bit < 31 → TookData w bit t u → TookData w bit (rest w t h) (rest w u (next_spot h))
+-- With the item at a spot taken, the rest is what is left from the next spot on.
+pub rest_data : {X : Type 0} (w : ℕ) (t u : ViewValue X) (h bit : ℕ) → IsView w t → h ≡ bit + 1 → bit < 31 → TookData w bit t u → TookData w bit (rest w t h) (rest w u (next_spot h))
 rest_data {X} w t u h bit ok e lt took = record {
   place = took.place;
-  child_bits = ap (λ m. bit_and m (children_from (next_spot h))) took.child_bits ∙ ap (bit_and t.child_bits) (ap (λ k. children_from (next_spot k)) e ∙ eqb-true _ _ (under 31 (λ b. eqb (children_from (next_spot (b + 1))) (children_from (b + 1))) same_children bit lt) ∙ ap children_from (sym e));
+  child_bits = ap (λ m. bit_and m (children_from (next_spot h))) took.child_bits ∙ ap (bit_and t.child_bits)
+      (ap (λ k. children_from (next_spot k)) e ∙ eqb-true _ _
+      (under 31 (λ b. eqb (children_from (next_spot (b + 1))) (children_from (b + 1))) same_children bit lt) ∙ ap children_from (sym e));
   at = λ n x. (
     (λ a. let was = (took.at n x).0 a.0 in let more = rank_more h (omega (arith, e)) (omega (arith, e, lt)) in let le = at_place n a.1 in ((was.0, omega (arith, more, le)), was.1)),
     (λ a. (
@@ -140,11 +155,17 @@ rest_data {X} w t u h bit ok e lt took = record {
     place_at : (n : Net) → rank_at (next_spot h) ≤ rank_at (spot_of w (depth_at t.place.len) n) → rank_at (next_spot h) ≤ rank_at (spot_of w (depth_at u.place.len) n)
     place_at n le = subst (λ p. rank_at (next_spot h) ≤ rank_at (spot_of w (depth_at p.len) n)) (sym took.place) le
 
-pub rest_took : {X : Type 0} (w : ℕ) (t u : Told X) (h c : ℕ) → IsView w t → h ≡ 32 + c → c < 32 → bit_at t.child_bits c ≡ 1 → TookChild w c t u → TookChild w c (rest w t h) (rest w u (next_spot h))
+-- With the child at a spot taken, the rest is what is left from the next spot on.
+pub rest_took : {X : Type 0} (w : ℕ) (t u : ViewValue X) (h c : ℕ) → IsView w t → h ≡ 32 + c → c < 32 → bit_at t.child_bits c ≡ 1 → TookChild w c t u → TookChild w c (rest w t h) (rest w u (next_spot h))
 rest_took {X} w t u h c ok e lt set took = record {
   place = took.place;
-  data_bits = ap (λ m. bit_and m (data_from (next_spot h))) took.data_bits ∙ ap (bit_and t.data_bits) (ap (λ k. data_from (next_spot k)) e ∙ eqb-true _ _ (under 32 (λ c. eqb (data_from (next_spot (32 + c))) (data_from (32 + c))) same_data c lt) ∙ ap data_from (sym e));
-  others = λ b ne. bit_at_and u.child_bits (children_from (next_spot h)) b ∙ ap (λ z. min z (bit_at (children_from (next_spot h)) b)) (took.others b ne) ∙ ap (min (bit_at t.child_bits b)) (ap (λ k. bit_at (children_from (next_spot k)) b) e ∙ other_child c b lt ne ∙ ap (λ k. bit_at (children_from k) b) (sym e)) ∙ sym (bit_at_and t.child_bits (children_from h) b);
+  data_bits = ap (λ m. bit_and m (data_from (next_spot h))) took.data_bits ∙ ap (bit_and t.data_bits)
+      (ap (λ k. data_from (next_spot k)) e ∙ eqb-true _ _ (under 32 (λ c. eqb (data_from (next_spot (32 + c))) (data_from (32 + c))) same_data c lt)
+      ∙ ap data_from (sym e));
+  others = λ b ne. bit_at_and u.child_bits (children_from (next_spot h)) b ∙ ap (λ z. min z (bit_at (children_from (next_spot h)) b))
+      (took.others b ne) ∙ ap (min (bit_at t.child_bits b))
+      (ap (λ k. bit_at (children_from (next_spot k)) b) e ∙ other_child c b lt ne ∙ ap (λ k. bit_at (children_from k) b) (sym e)) ∙ sym
+      (bit_at_and t.child_bits (children_from h) b);
   gone = bit_at_and u.child_bits (children_from (next_spot h)) c ∙ ap (λ z. min z (bit_at (children_from (next_spot h)) c)) took.gone ∙ omega arith;
   at = λ n x. (
     (λ a. let was = (took.at n x).0 a.0 in let more = rank_more h (omega (arith, e)) (omega (arith, e, lt)) in let le = at_place n a.1 in ((was.0, omega (arith, more, le)), was.1)),
@@ -167,7 +188,8 @@ rest_took {X} w t u h c ok e lt set took = record {
     place_at : (n : Net) → rank_at (next_spot h) ≤ rank_at (spot_of w (depth_at t.place.len) n) → rank_at (next_spot h) ≤ rank_at (spot_of w (depth_at u.place.len) n)
     place_at n le = subst (λ p. rank_at (next_spot h) ≤ rank_at (spot_of w (depth_at p.len) n)) (sym took.place) le
 
-pub rest_child : {X : Type 0} (w : ℕ) (t v : Told X) (h c : ℕ) → IsView w t → h ≡ 32 + c → bit_at t.child_bits c ≡ 1 → IsChild w c t v → IsChild w c (rest w t h) (rest w v 1)
+-- The child at a spot is a child of what is left from that spot on.
+pub rest_child : {X : Type 0} (w : ℕ) (t v : ViewValue X) (h c : ℕ) → IsView w t → h ≡ 32 + c → bit_at t.child_bits c ≡ 1 → IsChild w c t v → IsChild w c (rest w t h) (rest w v 1)
 rest_child w t v h c ok e set is =
     let d : ℕ = depth_at t.place.len in
     record {
@@ -186,15 +208,19 @@ rest_child w t v h c ok e set is =
 
 -- ---- in the form of the code
 
+-- The child bit at a spot is set in what is left from that spot on.
 pub rest_set : (m h c : ℕ) → h ≡ 32 + c → c < 32 → bit_at m c ≡ 1 → bit_at (bit_and m (children_from h)) c ≡ 1
 rest_set m h c e lt set = and_bits m (children_from h) c set (children_from_bit h c (omega (arith, e, lt)) lt ∙ ap (λ b. cond b 1 0) (le-leb _ _ (let g = ap rank_at e in omega (arith, g))))
 
-pub on_vacant : {V X : Type 0} (tell : V → Told X) (w h r : ℕ) (u v : V) → u ≡ v → r ≡ next_spot h → IsView w (tell v) → 1 ≤ h → h < 64 → Vacant (tell v) h → (n : Net) (x : X) → (rest w (tell u) r).at n x ↔ (rest w (tell v) h).at n x
+-- A step past a spot with nothing leaves the same pairs.
+pub on_vacant : {V X : Type 0} (tell : V → ViewValue X) (w h r : ℕ) (u v : V) → u ≡ v → r ≡ next_spot h → IsView w (tell v) → 1 ≤ h → h < 64 → Vacant (tell v) h → (n : Net) (x : X) → (rest w (tell u) r).at n x ↔ (rest w (tell v) h).at n x
 on_vacant tell w h r u v e g ok ph hh vacant n x =
     subst (λ z. (rest w (tell z) r).at n x ↔ (rest w (tell v) h).at n x) (sym e) (subst (λ k. (rest w (tell v) k).at n x ↔ (rest w (tell v) h).at n x) (sym g) (rest_vacant w (tell v) h ok ph hh vacant n x))
 
-pub on_data : {X : Type 0} (w : ℕ) (t u : Told X) (h r bit : ℕ) → IsView w t → h ≡ bit + 1 → bit < 31 → r ≡ next_spot h → TookData w bit t u → TookData w bit (rest w t h) (rest w u r)
+-- A step that takes the item of a spot takes it from what is left.
+pub on_data : {X : Type 0} (w : ℕ) (t u : ViewValue X) (h r bit : ℕ) → IsView w t → h ≡ bit + 1 → bit < 31 → r ≡ next_spot h → TookData w bit t u → TookData w bit (rest w t h) (rest w u r)
 on_data w t u h r bit ok e lt g took = subst (λ k. TookData w bit (rest w t h) (rest w u k)) (sym g) (rest_data w t u h bit ok e lt took)
 
-pub on_took : {X : Type 0} (w : ℕ) (t u : Told X) (h r c : ℕ) → IsView w t → h ≡ 32 + c → c < 32 → bit_at t.child_bits c ≡ 1 → r ≡ next_spot h → TookChild w c t u → TookChild w c (rest w t h) (rest w u r)
+-- A step that takes the child of a spot takes it from what is left.
+pub on_took : {X : Type 0} (w : ℕ) (t u : ViewValue X) (h r c : ℕ) → IsView w t → h ≡ 32 + c → c < 32 → bit_at t.child_bits c ≡ 1 → r ≡ next_spot h → TookChild w c t u → TookChild w c (rest w t h) (rest w u r)
 on_took w t u h r c ok e lt set g took = subst (λ k. TookChild w c (rest w t h) (rest w u k)) (sym g) (rest_took w t u h c ok e lt set took)

@@ -22,6 +22,7 @@ same_by : (a b : ℕ) (t : Bool) → eqb a b ≡ t → (a ≡ b) ⊎ (a ≢ b)
 same_by a b true e = inl (eqb-true a b e)
 same_by a b false e = inr (λ q. elim-false (sym e ∙ eq-eqb a b q))
 
+-- Two numbers are equal or differ.
 pub same_or : (a b : ℕ) → (a ≡ b) ⊎ (a ≢ b)
 same_or a b = same_by a b (eqb a b) refl
 
@@ -29,6 +30,7 @@ less_by : (a b : ℕ) (t : Bool) → leb b a ≡ t → (a < b) ⊎ (b ≤ a)
 less_by a b true e = inr (leb-true b a e)
 less_by a b false e = inl (lt_of_not-le (λ le. elim-false (sym e ∙ le-leb b a le)))
 
+-- Of two numbers the first is less, or the second is at most the first.
 pub less_or : (a b : ℕ) → (a < b) ⊎ (b ≤ a)
 less_or a b = less_by a b (leb b a) refl
 
@@ -44,12 +46,14 @@ same_low : (bit m m' b : ℕ) → OneBit bit m m' → b ≤ bit → m' % 2 ^ b �
 same_low bit m m' b o le = same_from_bits_below b (m' % 2 ^ b) (m % 2 ^ b) (mod_below m' (2 ^ b) (pow_pos b)) (mod_below m (2 ^ b) (pow_pos b))
     (λ i lt. low_bit m' b i lt ∙ o.kept i (λ e. omega (arith, e, lt, le)) ∙ sym (low_bit m b i lt))
 
+-- One bit more doesn't move the slots up to it.
 pub slots_low : (bit m m' b : ℕ) → OneBit bit m m' → b ≤ bit → slot_of m' b ≡ slot_of m b
 slots_low bit m m' b o le = ap count_ones (same_low bit m m' b o le)
 
 less_than : (n k : ℕ) → n < 2 ^ 32 → n / 2 ^ k < 2 ^ 32
 less_than n k h = let le = div-le_self n (2 ^ k) in omega arith
 
+-- One bit more is one set bit more.
 pub ones_more : (bit m m' : ℕ) → OneBit bit m m' → count_ones m' ≡ suc (count_ones m)
 ones_more bit m m' o =
     let low : count_ones (m' % 2 ^ bit) ≡ count_ones (m % 2 ^ bit) = slots_low bit m m' bit o (omega arith) in
@@ -79,15 +83,18 @@ one_low bit m m' b o lt = record {
     kept_by i ne (inl h) = low_bit m' b i h ∙ o.kept i ne ∙ sym (low_bit m b i h)
     kept_by i ne (inr h) = bit_at_above (m' % 2 ^ b) b i (mod_below m' (2 ^ b) (pow_pos b)) h ∙ sym (bit_at_above (m % 2 ^ b) b i (mod_below m (2 ^ b) (pow_pos b)) h)
 
+-- One bit more moves the slots after it by one.
 pub slots_high : (bit m m' b : ℕ) → OneBit bit m m' → bit < b → slot_of m' b ≡ suc (slot_of m b)
 slots_high bit m m' b o lt = ones_more bit (m % 2 ^ b) (m' % 2 ^ b) (one_low bit m m' b o lt)
 
+-- A later bit has a later slot than a set one before it.
 pub slot_later : (bitmap a b : ℕ) → a < b → bit_at bitmap a ≡ 1 → slot_of bitmap a < slot_of bitmap b
 slot_later n a b lt h =
     let m : ℕ = n % 2 ^ b in
     let e : n % 2 ^ b % 2 ^ a ≡ n % 2 ^ a = ap (λ k. n % 2 ^ k % 2 ^ a) (let k : b ≡ (b - a) + a = omega arith in k) ∙ mod-mod-pow n (b - a) a in
     subst (λ x. count_ones x < count_ones m) e (slot-lt m a (low_bit n b a lt ∙ h))
 
+-- A slot is at most the count of set bits.
 pub slot_le : (n b : ℕ) → slot_of n b ≤ count_ones n
 slot_le n b = let e = split n b in omega (arith, e)
 
@@ -112,7 +119,9 @@ get_below : {X : Type 0} (xs : List X) (i k : ℕ) (y x : X) → k < i → i ≤
 get_below xs i k y x lt le h = slice_get_read (insert xs i y) (length xs + 1) k x (sym (length-insert xs i y le)) (omega arith) (sym (get_or-insert_below xs i y x k lt le ∙ get_or_from_slice_get xs k x x h))
 
 get_above : {X : Type 0} (xs : List X) (i k : ℕ) (y x : X) → i ≤ k → i ≤ length xs → slice_get xs k ≡ Some x → slice_get (insert xs i y) (k + 1) ≡ Some x
-get_above xs i k y x lt le h = let w = slice_get_within xs k x h in slice_get_read (insert xs i y) (length xs + 1) (k + 1) x (sym (length-insert xs i y le)) (omega arith) (sym (get_or-insert_above xs i y x k lt le ∙ get_or_from_slice_get xs k x x h))
+get_above xs i k y x lt le h = let w = slice_get_within xs k x h in
+    slice_get_read (insert xs i y) (length xs + 1) (k + 1) x (sym (length-insert xs i y le)) (omega arith)
+    (sym (get_or-insert_above xs i y x k lt le ∙ get_or_from_slice_get xs k x x h))
 
 get_at : {X : Type 0} (xs : List X) (i : ℕ) (y : X) → i ≤ length xs → slice_get (insert xs i y) i ≡ Some y
 get_at xs i y le = slice_get_read (insert xs i y) (length xs + 1) i y (sym (length-insert xs i y le)) (omega arith) (sym (get_or-insert_at xs i y y le))
@@ -126,11 +135,13 @@ above_back xs i k y x lt le h =
     let l = length-insert xs i y le in
     slice_get_read xs (length xs) k x refl (omega arith) (sym (get_or_from_slice_get (insert xs i y) (k + 1) x x h) ∙ get_or-insert_above xs i y x k lt le)
 
+-- An element stands at each name of its place.
 pub at_plus : {X : Type 0} (xs : List X) (i j : ℕ) (x : X) → i ≡ j → slice_get xs i ≡ Some x → slice_get xs j ≡ Some x
 at_plus xs i j x e h = subst (λ k. slice_get xs k ≡ Some x) e h
 
 -- ---- an insertion at the popcount place
 
+-- Inserting at the slot of a new bit puts the element at that bit.
 pub put_new : {X : Type 0} (bit m m' : ℕ) (xs : List X) (y : X) → OneBit bit m m' → length xs ≡ count_ones m → PutAt bit y m xs m' (insert xs (slot_of m bit) y)
 put_new {X} bit m m' xs y o len =
     let i : ℕ = slot_of m bit in
@@ -183,6 +194,7 @@ put_new {X} bit m m' xs y o len =
     items_by j x h (inl lt) = inr (j, below_back xs (slot_of m bit) j y x lt le' h)
     items_by j x h (inr ge) = items_at j x h ge (same_or j (slot_of m bit))
 
+-- The same where list and place are known under other names.
 pub put_new_at : {X : Type 0} (bit m m' i : ℕ) (xs zs : List X) (y : X) → OneBit bit m m' → length xs ≡ count_ones m → zs ≡ insert xs i y → i ≡ slot_of m bit → PutAt bit y m xs m' zs
 put_new_at bit m m' i xs zs y o len e f = subst (λ ys. PutAt bit y m xs m' ys) (sym (e ∙ ap (λ k. insert xs k y) f)) (put_new bit m m' xs y o len)
 
@@ -193,14 +205,23 @@ slot_apart m a b ne p q = apart_by (less_or a b)
     apart_by (inl lt) = λ e. let l = slot_later m a b lt p in omega (arith, l, e)
     apart_by (inr ge) = λ e. let l = slot_later m b a (omega (arith, ge, ne)) q in omega (arith, l, e)
 
--- another value at a set bit
+-- Another value at a set bit.
 pub put_over : {X : Type 0} (bit m i : ℕ) (xs zs : List X) (y : X) → m < 2 ^ 32 → bit_at m bit ≡ 1 → length xs ≡ count_ones m → zs ≡ set xs i y → i ≡ slot_of m bit → PutAt bit y m xs m zs
 put_over {X} bit m i xs zs y fit on len e f =
     subst (λ ys. PutAt bit y m xs m ys) (sym (e ∙ ap (λ k. set xs k y) f)) (record {
       here = (on, here);
       others = λ b x ne. (
-        (λ h. (h.0, slice_get_read xs (length xs) _ x refl (within _ x h.1) (sym (get_or_from_slice_get (set xs (slot_of m bit) y) (slot_of m b) x x h.1) ∙ get_or-set_other xs (slot_of m bit) (slot_of m b) y x (slot_apart m b bit ne h.0 on)))),
-        (λ h. (h.0, slice_get_read (set xs (slot_of m bit) y) (length xs) _ x (sym (length-set xs (slot_of m bit) y)) (slice_get_within xs _ x h.1) (sym (get_or-set_other xs (slot_of m bit) (slot_of m b) y x (slot_apart m b bit ne h.0 on) ∙ get_or_from_slice_get xs _ x x h.1)))),
+        (λ h. (
+          h.0,
+          slice_get_read xs (length xs) _ x refl (within _ x h.1)
+              (sym (get_or_from_slice_get (set xs (slot_of m bit) y) (slot_of m b) x x h.1) ∙ get_or-set_other xs (slot_of m bit) (slot_of m b) y x
+              (slot_apart m b bit ne h.0 on)),
+        )),
+        (λ h. (
+          h.0,
+          slice_get_read (set xs (slot_of m bit) y) (length xs) _ x (sym (length-set xs (slot_of m bit) y)) (slice_get_within xs _ x h.1)
+              (sym (get_or-set_other xs (slot_of m bit) (slot_of m b) y x (slot_apart m b bit ne h.0 on) ∙ get_or_from_slice_get xs _ x x h.1)),
+        )),
       );
       len = length-set xs (slot_of m bit) y ∙ len;
       bits = λ b h. inr h;

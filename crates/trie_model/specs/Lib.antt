@@ -1,9 +1,10 @@
-pub mod Heap
+pub mod Nets
+pub mod Spots
+pub mod Views
+pub mod Masks
+pub mod Tries
+pub mod Walks
+pub mod Maps
+pub mod Puts
 pub mod Inside
 pub mod Longest
-pub mod Maps
-pub mod Nets
-pub mod Puts
-pub mod Tries
-pub mod Views
-pub mod Walks

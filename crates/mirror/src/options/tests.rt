@@ -1,11 +1,8 @@
-// Words and the settings that they spell, and the program under them.
+//! Words and the settings that they spell.
 use super::read_words;
-use crate::{MemorySink, MemorySource, Settings, cli};
+use crate::Settings;
 use std::alloc::{AllocError, Global};
 use std::test::Fail;
-
-const DUMP: &str =
-    "batch 0 0 e:1c0000001a0001030000000000000000000000000000000000000000\nrecv 0 0 1400000003000200010000000000000000000000\n";
 
 fn strings(alloc: Global, words: &[&str]) -> Result<Vec<String>, AllocError> {
     let mut strings = Vec::new(alloc);
@@ -74,30 +71,5 @@ fn other_words_spell_none(rt: HostRuntime) -> Result<(), Fail> {
     }
     let twice = strings(alloc, &["run", "peer=7", "done", "peer=8"])?;
     assert_eq!(rt; read_words(twice.as_slice()), None);
-    Ok(())
-}
-
-#[test]
-fn settings_come_from_the_words(rt: HostRuntime) -> Result<(), Fail> {
-    let alloc = rt.alloc();
-    // the dump has 119 bytes
-    let rows = [
-        ("limit=119", DUMP, 0),
-        ("limit=118", DUMP, 6),
-        ("start=4294967295", DUMP, 4),
-        ("limit=4", "bad\nmore", 2),
-        ("limit=04", "bad\nmore", 1),
-    ];
-    for (word, text, status) in rows {
-        let words = strings(alloc, &["run", word])?;
-        let bytes = text.as_bytes().to_vec(alloc)?;
-        let mut input = MemorySource::new(bytes, 50, Vec::new(alloc));
-        let mut out = MemorySink::new(alloc, 50, Vec::new(alloc));
-        assert_eq!(rt;
-            cli(alloc, words.as_slice(), &mut input, &mut out),
-            status,
-            "at {word}"
-        );
-    }
     Ok(())
 }

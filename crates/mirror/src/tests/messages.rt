@@ -1,6 +1,6 @@
-// Messages of the routing family through a whole session: links (types 16 to 19), addresses (20 to 22), routes (24 to 26), rules,
-// traffic control and its actions, by the layouts of include/uapi/linux/rtnetlink.h.
-use super::sessions::{Row, check_rows};
+//! Messages of the routing family through a whole session: links (types 16 to 19), addresses (20 to 22), routes (24 to 26), rules,
+//! traffic control and its actions, by the layouts of include/uapi/linux/rtnetlink.h.
+use super::sessions::Row;
 use crate::SocketAddr;
 use bytes::BytesMut;
 use nl_core::{DefaultNla, Items, NetlinkMessage, NoMemory, Octets};
@@ -10,12 +10,11 @@ use proto_core::{
 };
 use rt_dispatch::RouteNetlinkMessage;
 use rt_other::LinkMessage;
-use session_model::text_grows;
 use std::alloc::Global;
 use std::test::Fail;
 
-const MESSAGES: [Row; 6] = [
-    // Short requests on links, addresses and routes are told whole.
+pub const MESSAGES: [Row; 6] = [
+    // Short requests on links, addresses and routes are written whole.
     (
         &["run"],
         "recv 0 0 14000000120000000000000000000000070000001400000016000000000000000000000002000000110000001a000000000000000000000002\n",
@@ -36,7 +35,7 @@ const MESSAGES: [Row; 6] = [
         0,
         "ok 1 0 4 0 no\n",
     ),
-    // Padding that is missing is told, and a known kind has no flag bits.
+    // Padding that is missing is written, and a known kind has no flag bits.
     (
         &["run"],
         "recv 0 0 250000001000000000000000000000000000000000000000000000000000000005000700ab2c00000018000000000000000000000002080000fe030001000000000800048002000000080001000a000000\n",
@@ -58,12 +57,6 @@ const MESSAGES: [Row; 6] = [
         "sent 0 0 1c0000001a0001030100000000000000000000000000000000000000\nclosed 1\nok 3 0 1 0 no\n",
     ),
 ];
-
-#[test]
-fn messages_are_told(rt: HostRuntime) -> Result<(), Fail> {
-    text_grows::<RouteNetlinkMessage>();
-    check_rows(&rt, rt.alloc(), &MESSAGES)
-}
 
 // A link with one attribute of so many bytes, in a frame.
 fn link_with(alloc: Global, count: usize) -> Result<NetlinkMessage<RouteNetlinkMessage>, NoMemory> {

@@ -1,7 +1,7 @@
-// Sessions by rows of words, a transcript, a status and its text. The frames are RTM_GETROUTE requests (a dump, and one that
-// asks for an acknowledgement), RTM_NEWROUTE messages, one of type 108, and the kernel's NLMSG_NOOP, NLMSG_ERROR and
-// NLMSG_DONE answers.
-use super::{sink, source, strings};
+//! Sessions by rows of words, a transcript, a status and its text. The frames are RTM_GETROUTE requests (a dump, and one that
+//! asks for an acknowledgement), RTM_NEWROUTE messages, one of type 108, and the kernel's NLMSG_NOOP, NLMSG_ERROR and
+//! NLMSG_DONE answers.
+use super::{DUMP, DUMP_TOLD, sink, source, strings};
 use crate::{
     BatchFrame, Mark, MemorySink, Record, Report, RunFault, Runner, Settings, SocketAddr, cli,
     read_line, run,
@@ -14,26 +14,55 @@ use std::test::Fail;
 // The words, a transcript, the status that it ends with, and its text.
 pub type Row = (&'static [&'static str], &'static str, u8, &'static str);
 
-/// Each transcript has its status and its text, in whatever pieces it is read and written.
-pub fn check_rows(rt: &impl Abort, alloc: Global, rows: &[Row]) -> Result<(), Fail> {
-    for (words, input, status, text) in rows {
-        let words = strings(alloc, words)?;
-        for piece in [1, 100_000] {
-            let mut input = source(alloc, input, piece, &[])?;
-            let mut out = sink(alloc, piece, &[])?;
-            assert_eq!(rt;
-                cli(alloc, words.as_slice(), &mut input, &mut out),
-                *status,
-                "at {text}"
-            );
-            assert_eq!(rt; out.bytes(), text.as_bytes(), "at {text}");
-        }
+/// A transcript has its status and its text, in whatever pieces it is read and written.
+pub fn check_row(rt: &impl Abort, alloc: Global, row: &Row) -> Result<(), Fail> {
+    let (words, input, status, text) = *row;
+    let words = strings(alloc, words)?;
+    for piece in [1, 100_000] {
+        let mut input = source(alloc, input, piece, &[])?;
+        let mut out = sink(alloc, piece, &[])?;
+        assert_eq!(rt;
+            cli(alloc, words.as_slice(), &mut input, &mut out),
+            status,
+            "at {text}"
+        );
+        assert_eq!(rt; out.bytes(), text.as_bytes(), "at {text}");
     }
     Ok(())
 }
 
+/// A dump, an acknowledged request, a wrong port and its header's port, and lines that are no records.
+pub const TRANSCRIPTS: [Row; 6] = [
+    (&["run"], "", 0, "ok 0 0 0 0 no\n"),
+    (&["run"], DUMP, 0, DUMP_TOLD),
+    (
+        &["run"],
+        "batch 0 0 e:1c0000001a0005000000000000000000000000000000000000000000\nrecv 0 0 1c000000180000000100000000000000000000000000000000000000\nrecv 0 0 1400000002000000010000000000000000000000\n",
+        0,
+        "sent 0 0 1c0000001a0005000100000000000000000000000000000000000000\nreply 1 1 24 0 1 0 000000000000000000000000\nclosed 1\nok 3 2 0 0 no\n",
+    ),
+    (
+        &["run"],
+        "batch 0 0 f:1c0000001a0001030000000000000000000000000000000000000000\nrecv 7 0 1400000003000200010000000000000000000000\nrecv 0 0 1400000003000200010000000700000000000000\n",
+        0,
+        "sent 0 0 1c0000001a0001030100000000000000000000000000000000000000\nunsol 1 7 0 3 2 1 0 00000000\nclosed 1\nok 3 2 0 0 no\n",
+    ),
+    (
+        &["run"],
+        "batch 0 0 e:1C0000001a0001030000000000000000000000000000000000000000\n",
+        2,
+        "",
+    ),
+    (
+        &["run"],
+        "batch 0 0 e:1c0000001a0001030000000000000000000000000000000000000000\nrecv 0 0 14",
+        2,
+        "sent 0 0 1c0000001a0001030100000000000000000000000000000000000000\n",
+    ),
+];
+
 // Which frames leave, and which streams close at once.
-const BATCHES: [Row; 6] = [
+pub const BATCHES: [Row; 6] = [
     (
         &["run"],
         "batch 0 0\nbatch 0 0 n:1c0000001a0001030000000000000000000000000000000000000000\n",
@@ -72,13 +101,8 @@ const BATCHES: [Row; 6] = [
     ),
 ];
 
-#[test]
-fn batches_are_sent(rt: HostRuntime) -> Result<(), Fail> {
-    check_rows(&rt, rt.alloc(), &BATCHES)
-}
-
 // Which messages answer a request, and which don't.
-const REPLIES: [Row; 5] = [
+pub const REPLIES: [Row; 5] = [
     (
         &["run"],
         "batch 0 0 e:1c0000001a0001030000000000000000000000000000000000000000 n:1c0000001a0001030000000000000000000000000000000000000000\nrecv 0 0 1400000003000200020000000000000000000000\nrecv 0 0 1400000003000200010000000000000000000000\n",
@@ -111,13 +135,8 @@ const REPLIES: [Row; 5] = [
     ),
 ];
 
-#[test]
-fn replies_find_their_streams(rt: HostRuntime) -> Result<(), Fail> {
-    check_rows(&rt, rt.alloc(), &REPLIES)
-}
-
 // What a datagram brings, and what it loses.
-const DATAGRAMS: [Row; 5] = [
+pub const DATAGRAMS: [Row; 5] = [
     (
         &["run"],
         "recv 0 0 1c000000180000000000000000000000000000000000000000000000100000006c00000000000000000000001c0000001800000000000000000000000000000000000000000000000102030405\n",
@@ -145,13 +164,8 @@ const DATAGRAMS: [Row; 5] = [
     ),
 ];
 
-#[test]
-fn datagrams_are_cut(rt: HostRuntime) -> Result<(), Fail> {
-    check_rows(&rt, rt.alloc(), &DATAGRAMS)
-}
-
 // A close closes what is open, ascending, and nothing comes after it.
-const CLOSES: [Row; 5] = [
+pub const CLOSES: [Row; 5] = [
     (
         &["run"],
         "batch 0 0 f:1c0000001a0001030000000000000000000000000000000000000000\nbatch 0 0 f:1c0000001a0001030000000000000000000000000000000000000000 f:1c0000001a0001030000000000000000000000000000000000000000\nclose\n",
@@ -164,13 +178,8 @@ const CLOSES: [Row; 5] = [
     (&["run"], "close\nbatch 0 0\n", 3, ""),
 ];
 
-#[test]
-fn closes_end_all(rt: HostRuntime) -> Result<(), Fail> {
-    check_rows(&rt, rt.alloc(), &CLOSES)
-}
-
 // Lines that are just records, and lines that just aren't; the limit.
-const BOUNDARIES: [Row; 8] = [
+pub const BOUNDARIES: [Row; 8] = [
     (&["run"], "overrun", 2, ""),
     (&["run"], "recv 0 0 AB\n", 2, ""),
     (&["run"], "recv 00 0 -\n", 2, ""),
@@ -190,11 +199,6 @@ const BOUNDARIES: [Row; 8] = [
     ),
     (&["run", "limit=4"], "bad\nmore", 2, ""),
 ];
-
-#[test]
-fn boundaries_are_kept(rt: HostRuntime) -> Result<(), Fail> {
-    check_rows(&rt, rt.alloc(), &BOUNDARIES)
-}
 
 // A datagram has at most 65,536 bytes.
 #[test]

@@ -1,5 +1,5 @@
-// A datagram of raw messages: an empty frame of type 24, a done message without its code, the first
-// frame again, and three bytes.
+//! A datagram of raw messages: an empty frame of type 24, a done message without its code, the first
+//! frame again, and three bytes.
 use crate::*;
 use bytes::BytesMut;
 use nl_core::{NetlinkHeader, NetlinkMessage, NetlinkPayload, Octets, RawMessage};
@@ -9,8 +9,6 @@ use std::test::Fail;
 const GOOD: [u8; 16] = [16, 0, 0, 0, 24, 0, 2, 0, 9, 0, 0, 0, 0, 0, 0, 0];
 
 const UNREADABLE: [u8; 18] = [18, 0, 0, 0, 3, 0, 2, 0, 1, 0, 0, 0, 0, 0, 0, 0, 0, 0];
-
-const REST: [u8; 3] = [1, 2, 3];
 
 fn good(alloc: Global) -> NetlinkMessage<RawMessage> {
     let header = NetlinkHeader {
@@ -32,12 +30,12 @@ fn datagram(alloc: Global) -> Result<BytesMut, AllocError> {
     src.extend_from_slice(&GOOD)?;
     src.extend_from_slice(&UNREADABLE)?;
     src.extend_from_slice(&GOOD)?;
-    src.extend_from_slice(&REST)?;
+    src.extend_from_slice(&[1, 2, 3])?;
     Ok(src)
 }
 
 #[test]
-fn an_unreadable_frame_is_taken_alone(rt: HostRuntime) -> Result<(), Fail> {
+fn datagrams_are_read_and_written(rt: HostRuntime) -> Result<(), Fail> {
     let alloc = rt.alloc();
     let mut src = datagram(alloc)?;
     let unreadable = Decoded::Unreadable {
@@ -45,52 +43,22 @@ fn an_unreadable_frame_is_taken_alone(rt: HostRuntime) -> Result<(), Fail> {
         sequence_number: 1,
     };
     let rows = [
-        (Decoded::Message(good(alloc)), 37),
-        (unreadable, 19),
-        (Decoded::Message(good(alloc)), 3),
-        (Decoded::Rest { bytes: 3 }, 0),
-        (Decoded::Empty, 0),
+        Decoded::Message(good(alloc)),
+        unreadable,
+        Decoded::Message(good(alloc)),
+        Decoded::Rest { bytes: 3 },
+        Decoded::Empty,
     ];
-    for (decoded, left) in rows {
+    for decoded in rows {
         assert!(rt; NetlinkCodec::decode_next(alloc, &mut src)? == decoded);
-        assert_eq!(rt; src.len(), left);
     }
-    Ok(())
-}
-
-#[test]
-fn messages_behind_an_unreadable_frame_are_decoded(rt: HostRuntime) -> Result<(), Fail> {
-    let alloc = rt.alloc();
     let mut src = datagram(alloc)?;
-    for left in [37, 3] {
-        assert!(rt; NetlinkCodec::decode(alloc, &mut src)? == Some(good(alloc)));
-        assert_eq!(rt; src.len(), left);
-    }
+    NetlinkCodec::decode::<RawMessage>(alloc, &mut src)?;
+    assert!(rt; NetlinkCodec::decode(alloc, &mut src)? == Some(good(alloc)));
     assert!(rt; NetlinkCodec::decode::<RawMessage>(alloc, &mut src)?.is_none());
-    assert!(rt; src.is_empty());
-    Ok(())
-}
-
-#[test]
-fn messages_are_appended(rt: HostRuntime) -> Result<(), Fail> {
-    let alloc = rt.alloc();
-    let mut buf = BytesMut::new(alloc);
-    buf.extend_from_slice(&REST)?;
-    NetlinkCodec::encode(good(alloc), &mut buf)?;
-    assert_eq!(rt; &buf.as_slice()[..3], REST.as_slice());
-    assert_eq!(rt; &buf.as_slice()[3..], GOOD.as_slice());
-    Ok(())
-}
-
-#[test]
-fn codec_errors_have_texts(rt: HostRuntime) -> Result<(), Fail> {
-    let alloc = rt.alloc();
-    let rows = [
-        (CodecError::Unfit, "message does not fit"),
-        (CodecError::NoMemory, "out of memory"),
-    ];
-    for (error, text) in rows {
-        assert_eq!(rt; format!(in alloc; "{error}")?.as_str(), text);
-    }
+    NetlinkCodec::encode(good(alloc), &mut src)?;
+    assert_eq!(rt; src.as_slice(), GOOD.as_slice());
+    let text = format!(in alloc; "{}, {}", CodecError::Unfit, CodecError::NoMemory)?;
+    assert_eq!(rt; text.as_str(), "message does not fit, out of memory");
     Ok(())
 }

@@ -3,15 +3,15 @@
 ghost use Rattle.std.specs.Prelude.{◌≡◌, ℕ, ◌+◌, ◌-◌, ◌/◌, ◌<◌, ◌≤◌, Some, slice_get, vec_len};
 ghost use Rattle.std.specs.Borrow.{sem};
 ghost use Rattle.trie_map.specs.declared.node.Node.{out-Node};
-ghost use Rattle.trie_map.specs.Forms.{node_form};
+ghost use Rattle.trie_map.specs.Shape.{node_shape};
 ghost use Rattle.trie_map.specs.Lending.{LendsBelow, LendsChildren, LendsPlace};
-ghost use Rattle.trie_model.specs.Nets.{Net, IsNet};
-ghost use Rattle.trie_model.specs.Puts.{At};
+ghost use Rattle.trie_model.specs.Nets.{IsNet, net_of};
+ghost use Rattle.trie_model.specs.Puts.{HasItem};
 ghost use Rattle.trie_model.specs.Tries.{Good};
 
 use super::{Node, child_toward, slot};
 use crate::masks::data_bit;
-use crate::prefix::Word;
+use crate::prefix::KeyBits;
 use std::marker::PhantomData;
 
 /// What stands at a place.
@@ -32,13 +32,13 @@ fn children<T>(node: &mut Node<T>) -> &mut Vec<Node<T>>
 }
 
 /// The item of a prefix of the node itself that has one.
-fn own_item<W: Word, T>(node: &mut Node<T>, depth: u32, key: W, len: u32) -> &mut T
-    requires net { IsNet W.width (record { bits = W.number key; len = len }) }
+fn own_item<W: KeyBits, T>(node: &mut Node<T>, depth: u32, key: W, len: u32) -> &mut T
+    requires net { IsNet W.width (net_of (W.number key) len) }
     requires low { depth ≤ len }
     requires high { len < depth + 5 }
-    requires there { (x : T) × At node_form W.width depth node.old (record { bits = W.number key; len = len }) x }
-    ensures* lends { sem 𝓛 (LendsBelow T.row W.width depth (record { bits = W.number key; len = len }) node.entry result) }
-    ensures item { At node_form W.width depth node.old (record { bits = W.number key; len = len }) result.now }
+    requires there { (x : T) × HasItem node_shape W.width depth node.old (net_of (W.number key) len) x }
+    ensures* lends { sem 𝓛 (LendsBelow T.row W.width depth (net_of (W.number key) len) node.entry result) }
+    ensures item { HasItem node_shape W.width depth node.old (net_of (W.number key) len) result.now }
 {
     let place = slot(node.data_bitmap, data_bit(depth, key, len));
     nth(&mut node.items, place)
@@ -50,14 +50,14 @@ pub trait Descent {
     ghost levels: { ℕ };
 
     /// The item of a prefix that has one.
-    fn lend_item<W: Word, T>(node: &mut Node<T>, depth: u32, key: W, len: u32) -> &mut T
-        requires good { (k : ℕ) → Good node_form W.width k depth node.old }
-        requires net { IsNet W.width (record { bits = W.number key; len = len }) }
+    fn lend_item<W: KeyBits, T>(node: &mut Node<T>, depth: u32, key: W, len: u32) -> &mut T
+        requires good { (k : ℕ) → Good node_shape W.width k depth node.old }
+        requires net { IsNet W.width (net_of (W.number key) len) }
         requires low { depth ≤ len }
         requires near { (len - depth) / 5 ≤ levels }
-        requires there { (x : T) × At node_form W.width depth node.old (record { bits = W.number key; len = len }) x }
-        ensures* lends { sem 𝓛 (LendsBelow T.row W.width depth (record { bits = W.number key; len = len }) node.entry result) }
-        ensures item { At node_form W.width depth node.old (record { bits = W.number key; len = len }) result.now };
+        requires there { (x : T) × HasItem node_shape W.width depth node.old (net_of (W.number key) len) x }
+        ensures* lends { sem 𝓛 (LendsBelow T.row W.width depth (net_of (W.number key) len) node.entry result) }
+        ensures item { HasItem node_shape W.width depth node.old (net_of (W.number key) len) result.now };
 }
 
 /// No level.
@@ -71,7 +71,7 @@ pub struct Next<L> {
 impl Descent for Last {
     ghost levels = { 0 };
 
-    fn lend_item<W: Word, T>(node: &mut Node<T>, depth: u32, key: W, len: u32) -> &mut T {
+    fn lend_item<W: KeyBits, T>(node: &mut Node<T>, depth: u32, key: W, len: u32) -> &mut T {
         own_item(node, depth, key, len)
     }
 }
@@ -79,7 +79,7 @@ impl Descent for Last {
 impl<L: Descent> Descent for Next<L> {
     ghost levels = { L.levels + 1 };
 
-    fn lend_item<W: Word, T>(node: &mut Node<T>, depth: u32, key: W, len: u32) -> &mut T {
+    fn lend_item<W: KeyBits, T>(node: &mut Node<T>, depth: u32, key: W, len: u32) -> &mut T {
         if len - depth < 5 {
             return own_item(node, depth, key, len);
         }

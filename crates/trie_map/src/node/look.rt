@@ -1,29 +1,28 @@
 //! Look-ups in a trie.
 
-ghost use Rattle.std.specs.Prelude.{◌≡◌, ℕ, ◌+◌, ◌-◌, ◌/◌, ◌<◌, ◌≤◌, min};
-ghost use Rattle.trie_map.specs.Forms.{node_form};
-ghost use Rattle.trie_model.specs.Nets.{Net, IsNet};
+ghost use Rattle.std.specs.Prelude.{ℕ, ◌+◌, ◌-◌, ◌/◌, ◌≤◌, min};
+ghost use Rattle.trie_map.specs.Shape.{node_shape, NodeLongest};
+ghost use Rattle.trie_model.specs.Nets.{IsNet, net_of};
 ghost use Rattle.trie_model.specs.Puts.{Gets};
 ghost use Rattle.trie_model.specs.Inside.{Reaches};
-ghost use Rattle.trie_model.specs.Longest.{LongestIn};
 ghost use Rattle.trie_model.specs.Tries.{Full, Good, NodeOk};
 
 use super::{Node, Steps, Visited, child_toward, visit};
 use crate::masks::{data_bit, data_lpm_mask, level};
-use crate::prefix::Word;
+use crate::prefix::KeyBits;
 
 /// The item of a prefix. It reads at most one node for each five bits on the way, and the last one.
-pub fn find<'a, W: Word, T, L>(
+pub fn get_below<'a, W: KeyBits, T, L>(
     node: &'a Node<T>,
     depth: u32,
     key: W,
     len: u32,
     steps: &mut Steps<L>,
 ) -> Option<&'a T>
-    requires good { (k : ℕ) → Good node_form W.width k depth node.now }
-    requires net { IsNet W.width (record { bits = W.number key; len = len }) }
+    requires good { (k : ℕ) → Good node_shape W.width k depth node.now }
+    requires net { IsNet W.width (net_of (W.number key) len) }
     requires low { depth ≤ len }
-    ensures item { Gets (λ r. r.now) node_form W.width depth (record { bits = W.number key; len = len }) node.now result }
+    ensures item { Gets (λ r. r.now) node_shape W.width depth (net_of (W.number key) len) node.now result }
     ensures cost { steps.new ≤ steps.old + ((len - depth) / 5 + 1) }
 {
     let here = visit(node, steps);
@@ -36,22 +35,22 @@ pub fn find<'a, W: Word, T, L>(
     }
     let bit = child_toward(depth, key);
     if here.child_bitmap() >> bit & 1 == 1 {
-        return find(here.child(bit), depth + 5, key, len, steps);
+        return get_below(here.child(bit), depth + 5, key, len, steps);
     }
     None
 }
 
 /// The longest prefix of a key in the node itself that has an item: its length, and the item.
-fn longest_here<'a, W: Word, T>(
+fn longest_here<'a, W: KeyBits, T>(
     here: &Visited<'a, T>,
     depth: u32,
     key: W,
     len: u32,
 ) -> Option<(u32, &'a T)>
-    requires node { NodeOk node_form W.width depth here.now.node.now }
-    requires net { IsNet W.width (record { bits = W.number key; len = len }) }
+    requires node { NodeOk node_shape W.width depth here.now.node.now }
+    requires net { IsNet W.width (net_of (W.number key) len) }
     requires low { depth ≤ len }
-    ensures { LongestIn (λ r. r.0) (λ r. r.1.now) node_form W.width depth (W.number key) here.now.node.now depth (min len (depth + 4)) result }
+    ensures { NodeLongest W.width depth (W.number key) here.now.node.now depth (min len (depth + 4)) result }
 {
     let inside = here.data_bitmap() & data_lpm_mask(depth, key, len);
     if inside == 0 {
@@ -62,17 +61,17 @@ fn longest_here<'a, W: Word, T>(
 }
 
 /// The longest prefix of a key that has an item in the node or below it: its length, and the item.
-pub fn longest<'a, W: Word, T, L>(
+pub fn lpm_below<'a, W: KeyBits, T, L>(
     node: &'a Node<T>,
     depth: u32,
     key: W,
     len: u32,
     steps: &mut Steps<L>,
 ) -> Option<(u32, &'a T)>
-    requires good { (k : ℕ) → Good node_form W.width k depth node.now }
-    requires net { IsNet W.width (record { bits = W.number key; len = len }) }
+    requires good { (k : ℕ) → Good node_shape W.width k depth node.now }
+    requires net { IsNet W.width (net_of (W.number key) len) }
     requires low { depth ≤ len }
-    ensures longest { LongestIn (λ r. r.0) (λ r. r.1.now) node_form W.width depth (W.number key) node.now depth len result }
+    ensures longest { NodeLongest W.width depth (W.number key) node.now depth len result }
     ensures cost { steps.new ≤ steps.old + ((len - depth) / 5 + 1) }
 {
     let here = visit(node, steps);
@@ -81,7 +80,7 @@ pub fn longest<'a, W: Word, T, L>(
     }
     let bit = child_toward(depth, key);
     if here.child_bitmap() >> bit & 1 == 1 {
-        return match longest(here.child(bit), depth + 5, key, len, steps) {
+        return match lpm_below(here.child(bit), depth + 5, key, len, steps) {
             Some(found) => Some(found),
             None => longest_here(&here, depth, key, len),
         };
@@ -90,18 +89,18 @@ pub fn longest<'a, W: Word, T, L>(
 }
 
 /// The node that has a prefix's place, unless a node on the way there is missing.
-pub fn reach<'a, W: Word, T, L>(
+pub fn node_of<'a, W: KeyBits, T, L>(
     node: &'a Node<T>,
     depth: u32,
     key: W,
     len: u32,
     steps: &mut Steps<L>,
 ) -> Option<Visited<'a, T>>
-    requires good { (k : ℕ) → Good node_form W.width k depth node.now }
-    requires full { (k : ℕ) → Full node_form k node.now }
-    requires net { IsNet W.width (record { bits = W.number key; len = len }) }
+    requires good { (k : ℕ) → Good node_shape W.width k depth node.now }
+    requires full { (k : ℕ) → Full node_shape k node.now }
+    requires net { IsNet W.width (net_of (W.number key) len) }
     requires low { depth ≤ len }
-    ensures node { Reaches (λ r. r.node.now) node_form W.width depth (record { bits = W.number key; len = len }) node.now result }
+    ensures node { Reaches (λ r. r.node.now) node_shape W.width depth (net_of (W.number key) len) node.now result }
     ensures cost { steps.new ≤ steps.old + ((len - depth) / 5 + 1) }
 {
     let here = visit(node, steps);
@@ -110,7 +109,7 @@ pub fn reach<'a, W: Word, T, L>(
     }
     let bit = child_toward(depth, key);
     if here.child_bitmap() >> bit & 1 == 1 {
-        return reach(here.child(bit), depth + 5, key, len, steps);
+        return node_of(here.child(bit), depth + 5, key, len, steps);
     }
     None
 }

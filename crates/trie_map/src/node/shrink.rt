@@ -1,16 +1,15 @@
 //! Removal from a trie. A child that is left with nothing is dropped.
 
-ghost use Rattle.std.specs.Prelude.{◌≡◌, ◌≢◌, ℕ, ◌+◌, ◌<◌, ◌≤◌, length, count_ones};
+ghost use Rattle.std.specs.Prelude.{◌≡◌, ℕ, ◌+◌, ◌<◌, ◌≤◌, length, count_ones};
 ghost use Rattle.std.specs.Int.{bit_at};
-ghost use Rattle.trie_map.specs.Forms.{node_form};
-ghost use Rattle.trie_model.specs.Heap.{bits_toward};
-ghost use Rattle.trie_model.specs.Nets.{Net, IsNet};
-ghost use Rattle.trie_model.specs.Puts.{HoldsAt, Keeps, TakeIn, TakenAt};
+ghost use Rattle.trie_map.specs.Shape.{node_shape, ChildrenFit};
+ghost use Rattle.trie_model.specs.Nets.{IsNet, net_of};
+ghost use Rattle.trie_model.specs.Puts.{TakeIn, TakenAt, KeepsBelow};
 ghost use Rattle.trie_model.specs.Tries.{Good, Full, FullBut};
 
 use super::{Node, child_toward, item_at, slot};
 use crate::masks::data_bit;
-use crate::prefix::Word;
+use crate::prefix::KeyBits;
 
 /// Takes the item of a set bit out, and gives the bitmap without the bit.
 fn detach<X>(bitmap: u32, bit: u32, items: &mut Vec<X>) -> (u32, X)
@@ -24,15 +23,15 @@ fn detach<X>(bitmap: u32, bit: u32, items: &mut Vec<X>) -> (u32, X)
 }
 
 /// Takes an item out of the node itself.
-fn take_here<W: Word, T>(node: &mut Node<T>, depth: u32, key: W, len: u32) -> Option<T>
-    requires good { (k : ℕ) → Good node_form W.width k depth node.old }
-    requires net { IsNet W.width (record { bits = W.number key; len = len }) }
+fn take_here<W: KeyBits, T>(node: &mut Node<T>, depth: u32, key: W, len: u32) -> Option<T>
+    requires good { (k : ℕ) → Good node_shape W.width k depth node.old }
+    requires net { IsNet W.width (net_of (W.number key) len) }
     requires low { depth ≤ len }
     requires high { len < depth + 5 }
-    ensures good { (k : ℕ) → Good node_form W.width k depth node.new }
-    ensures take { TakeIn node_form W.width depth (record { bits = W.number key; len = len }) node.old node.new result }
-    ensures kids { node_form.kids node.new ≡ node_form.kids node.old }
-    ensures below { node_form.below node.new ≡ node_form.below node.old }
+    ensures good { (k : ℕ) → Good node_shape W.width k depth node.new }
+    ensures take { TakeIn node_shape W.width depth (net_of (W.number key) len) node.old node.new result }
+    ensures child_bits { node_shape.child_bits node.new ≡ node_shape.child_bits node.old }
+    ensures children { node_shape.children node.new ≡ node_shape.children node.old }
 {
     let bit = data_bit(depth, key, len);
     if node.data_bitmap >> bit & 1 == 1 {
@@ -45,13 +44,13 @@ fn take_here<W: Word, T>(node: &mut Node<T>, depth: u32, key: W, len: u32) -> Op
 
 /// Drops the child of a set bit if it has nothing.
 fn prune<T: Drop>(node: &mut Node<T>, bit: u32)
-    requires compact { length (node_form.below node.old) ≡ count_ones (node_form.kids node.old) }
-    requires set { bit_at (node_form.kids node.old) bit ≡ 1 }
+    requires compact { ChildrenFit node.old }
+    requires set { bit_at (node_shape.child_bits node.old) bit ≡ 1 }
     requires bit { bit < 32 }
-    requires full { (k : ℕ) → FullBut node_form bit k node.old }
-    ensures good { (w d : ℕ) → ((k : ℕ) → Good node_form w k d node.old) → (k : ℕ) → Good node_form w k d node.new }
-    ensures keeps { (w d : ℕ) (net : Net) → IsNet w net → d + 5 ≤ net.len → bit ≡ bits_toward w d 5 net.bits → Keeps {X = T} node_form w d net node.old node.new }
-    ensures full { (k : ℕ) → Full node_form k node.new }
+    requires full { (k : ℕ) → FullBut node_shape bit k node.old }
+    ensures good { (w d : ℕ) → ((k : ℕ) → Good node_shape w k d node.old) → (k : ℕ) → Good node_shape w k d node.new }
+    ensures keeps { KeepsBelow {X = T} node_shape bit node.old node.new }
+    ensures full { (k : ℕ) → Full node_shape k node.new }
 {
     let child = item_at(node.child_bitmap, bit, &node.children);
     if child.data_bitmap == 0 && child.child_bitmap == 0 {
@@ -61,21 +60,26 @@ fn prune<T: Drop>(node: &mut Node<T>, bit: u32)
 }
 
 /// Takes an item out of the node or from below it.
-pub fn take<W: Word, T: Drop>(node: &mut Node<T>, depth: u32, key: W, len: u32) -> Option<T>
-    requires good { (k : ℕ) → Good node_form W.width k depth node.old }
-    requires full { (k : ℕ) → Full node_form k node.old }
-    requires net { IsNet W.width (record { bits = W.number key; len = len }) }
+pub fn remove_below<W: KeyBits, T: Drop>(
+    node: &mut Node<T>,
+    depth: u32,
+    key: W,
+    len: u32,
+) -> Option<T>
+    requires good { (k : ℕ) → Good node_shape W.width k depth node.old }
+    requires full { (k : ℕ) → Full node_shape k node.old }
+    requires net { IsNet W.width (net_of (W.number key) len) }
     requires low { depth ≤ len }
-    ensures good { (k : ℕ) → Good node_form W.width k depth node.new }
-    ensures full { (k : ℕ) → Full node_form k node.new }
-    ensures take { TakeIn node_form W.width depth (record { bits = W.number key; len = len }) node.old node.new result }
+    ensures good { (k : ℕ) → Good node_shape W.width k depth node.new }
+    ensures full { (k : ℕ) → Full node_shape k node.new }
+    ensures take { TakeIn node_shape W.width depth (net_of (W.number key) len) node.old node.new result }
 {
     if len - depth < 5 {
         return take_here(node, depth, key, len);
     }
     let bit = child_toward(depth, key);
     if node.child_bitmap >> bit & 1 == 1 {
-        let was = take(
+        let was = remove_below(
             &mut node.children[slot(node.child_bitmap, bit)],
             depth + 5,
             key,

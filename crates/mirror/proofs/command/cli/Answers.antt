@@ -1,6 +1,7 @@
 use Rattle.std.proofs.Common.{◌≡◌, refl, subst, inl, inr}
 use Rattle.session_model.specs.declared.settings.Settings.{Settings}
-use Rattle.mirror.specs.Cli.{HasFailed, WasTold}
+use Rattle.transcript_io.specs.Io.{traffic}
+use Rattle.mirror.specs.Cli.{HasFailed, WasReported}
 use Rattle.mirror.proofs.Choices.{same_settings}
 use Rattle.mirror.proofs.command.cli.Goals as goal
 
@@ -10,20 +11,14 @@ returns-in_default-clause-ran g c settings spell = absurd (c.in_default.ensures 
 pub returns-in-Ok-clause-ran : goal.returns-in-Ok-clause-ran
 returns-in-Ok-clause-ran g c settings spell =
     let same : c.in-Some.settings ≡ settings = same_settings _ _ _ c.in-Some.ensures spell in
-    inl (
-      refl,
-      subst (λ (s : Settings). WasTold s (g.S.Source.left c.args.input.now) (g.S.Source.left c.run_and_tell.new.input) (g.K.Sink.written c.args.out.now) (g.K.Sink.written c.run_and_tell.new.out)) same
-          c.in-Ok.ensures.ok,
-    )
+    let after = c.run_and_report.new in
+    let io = traffic g.S.Source.left c.args.input.now after.input g.K.Sink.written c.args.out.now after.out in
+    inl (refl, subst (λ (s : Settings). WasReported s io) same c.in-Ok.ensures.ok)
 
 pub returns-in-Err-clause-ran : goal.returns-in-Err-clause-ran
 returns-in-Err-clause-ran g c settings spell =
     let same : c.in-Some.settings ≡ settings = same_settings _ _ _ c.in-Some.ensures spell in
-    inr (
-      c.in-Err.fault,
-      (
-        c.status_of.ensures,
-        subst (λ (s : Settings). HasFailed s (g.S.Source.left c.args.input.now) (g.S.Source.left c.run_and_tell.new.input) (g.K.Sink.written c.args.out.now) (g.K.Sink.written c.run_and_tell.new.out) c.in-Err.fault) same
-            c.in-Err.ensures.failed,
-      ),
-    )
+    let after = c.run_and_report.new in
+    let io = traffic g.S.Source.left c.args.input.now after.input g.K.Sink.written c.args.out.now after.out in
+    let failed = subst (λ (s : Settings). HasFailed s io c.in-Err.fault) same c.in-Err.ensures.failed in
+    inr (c.in-Err.fault, (c.status_of.ensures, failed))

@@ -1,5 +1,6 @@
-use Rattle.rt_other.proofs.TcAgain.{messages-again}
+use Rattle.rt_other.proofs.MessageReadBack.{messages-again}
+use Rattle.rt_other.proofs.Forms.{tc_form, tc-laws}
 use Rattle.rt_other.proofs.laws.tc_messages_read_back.Goals as goal
 
 pub returns : goal.returns
-returns c = messages-again
+returns c = λ m fit back. messages-again tc_form tc-laws m fit back.0 back.1

@@ -1,7 +1,7 @@
 use Rattle.std.proofs.Common.{◌++◌, map, ap, sym, ◌∙◌}
 use Rattle.session_model.specs.Transcript.{frame_word}
 use Rattle.transcript_lines.specs.Words.{words_left}
-use Rattle.transcript_lines.proofs.Records.{no_batch, no_frames}
+use Rattle.transcript_lines.proofs.RecordWords.{no_batch, no_frames}
 use Rattle.transcript_lines.proofs.line.read_batch.Goals as goal
 
 pub returns-in-None-2 : goal.returns-in-None-2

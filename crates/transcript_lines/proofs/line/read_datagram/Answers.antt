@@ -1,7 +1,7 @@
 use Rattle.std.proofs.Common.{◌≡◌, sym}
 use Rattle.session_model.specs.Lines.{hex_word}
 use Rattle.transcript_lines.specs.Words.{words_left}
-use Rattle.transcript_lines.proofs.Records.{no_datagram, no_more, long_word, short_bytes, datagram_words}
+use Rattle.transcript_lines.proofs.RecordWords.{no_datagram, no_more, long_word, short_bytes, datagram_words}
 use Rattle.transcript_lines.proofs.line.read_datagram.Goals as goal
 
 pub returns-then-word : goal.returns-then-word

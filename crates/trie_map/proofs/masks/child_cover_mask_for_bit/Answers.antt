@@ -13,3 +13,6 @@ pub returns-clause-mask : goal.returns-clause-mask
 returns-clause-mask c w depth key child lt fits =
     ap (λ x. bit_at x child) (child_is (c.args.bit + 1) c.level-rest.result (omega arith) (omega (arith, c.requires)) c.level-rest.ensures)
     ∙ for_bit_children w depth key c.args.bit child c.requires lt fits
+
+pub returns-clause-small : goal.returns-clause-small
+returns-clause-small c = child_fits (c.args.bit + 1) c.level-rest.result (omega arith) (omega (arith, c.requires)) c.level-rest.ensures

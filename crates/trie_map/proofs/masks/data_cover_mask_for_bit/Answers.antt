@@ -1,6 +1,6 @@
 use Rattle.std.proofs.Common.{◌≡◌, ℕ, ◌+◌, ◌<◌, ◌∙◌, ap, arith}
 use Rattle.std.specs.Int.{bit_at}
-use Rattle.trie_model.specs.Heap.{row_below}
+use Rattle.trie_model.specs.Spots.{row_below}
 use Rattle.trie_model.proofs.MaskLaws.{rows_fit, for_bit_rows, sum_is}
 use Rattle.trie_map.proofs.masks.data_cover_mask_for_bit.Goals as goal
 

@@ -15,10 +15,14 @@ pub from_number-requires-clause-fits : goal.from_number-requires-clause-fits
 from_number-requires-clause-fits g c =
     let e : c.level-level.result ≡ level_of c.args.bit = c.level-level.ensures ∙ level_same c.args.bit c.requires.bit in
     let le = level_le c.args.bit in
-    (rebuilt g.P.Number.Word.width c.args.depth (g.P.Number.Word.number c.args.key) c.args.bit c.level-level.result (1 * 2 ^ c.level-level.result % 4294967296) (g.P.Number.Word.number c.with_bits-number.result) c.requires.fits c.requires.bit e (shl_level c.level-level.result (omega arith)) c.requires.end c.with_bits-number.ensures).fits
+    (rebuilt g.P.Number.KeyBits.width c.args.depth (g.P.Number.KeyBits.number c.args.key) c.args.bit c.level-level.result
+    (1 * 2 ^ c.level-level.result % 4294967296) (g.P.Number.KeyBits.number c.with_bits-number.result) c.requires.fits c.requires.bit e
+    (shl_level c.level-level.result (omega arith)) c.requires.end c.with_bits-number.ensures).fits
 
 pub returns-clause-net : goal.returns-clause-net
 returns-clause-net g c =
     let e : c.level-level.result ≡ level_of c.args.bit = c.level-level.ensures ∙ level_same c.args.bit c.requires.bit in
     let le = level_le c.args.bit in
-    c.from_number.ensures.net ∙ (rebuilt g.P.Number.Word.width c.args.depth (g.P.Number.Word.number c.args.key) c.args.bit c.level-level.result (1 * 2 ^ c.level-level.result % 4294967296) (g.P.Number.Word.number c.with_bits-number.result) c.requires.fits c.requires.bit e (shl_level c.level-level.result (omega arith)) c.requires.end c.with_bits-number.ensures).net
+    c.from_number.ensures.net ∙ (rebuilt g.P.Number.KeyBits.width c.args.depth (g.P.Number.KeyBits.number c.args.key) c.args.bit c.level-level.result
+    (1 * 2 ^ c.level-level.result % 4294967296) (g.P.Number.KeyBits.number c.with_bits-number.result) c.requires.fits c.requires.bit e
+    (shl_level c.level-level.result (omega arith)) c.requires.end c.with_bits-number.ensures).net

@@ -7,7 +7,9 @@ use Rattle.trie_map.proofs.walk.descend.Given as goal
 abbrev pub invariant-down : goal.invariant-down
 invariant-down g l = record {
   usable : g.V.TrieView.valid l.view;
-  way : Down (λ k. g.V.TrieView.valid k.view) (λ k. rest g.V.P.Number.Word.width (g.V.TrieView.told k.view) k.spot) (λ k. g.V.TrieView.told k.view) (λ k. k.spot) g.V.P.Number.Word.width l.inclusive (record { bits = g.V.P.Number.Word.number l.key; len = l.len }) (g.V.TrieView.told l.initial.view) l.initial.levels.items (g.V.TrieView.told l.view) l.levels.items (vec_capacity l.levels);
+  way : Down (λ k. g.V.TrieView.valid k.view) (λ k. rest g.V.P.Number.KeyBits.width (g.V.TrieView.told k.view) k.spot) (λ k. g.V.TrieView.told k.view)
+      (λ k. k.spot) g.V.P.Number.KeyBits.width l.inclusive (record { bits = g.V.P.Number.KeyBits.number l.key; len = l.len })
+      (g.V.TrieView.told l.initial.view) l.initial.levels.items (g.V.TrieView.told l.view) l.levels.items (vec_capacity l.levels);
 }
 
 abbrev pub decreases-down : goal.decreases-down

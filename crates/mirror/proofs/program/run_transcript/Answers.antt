@@ -1,0 +1,52 @@
+use Rattle.std.proofs.Common.{◌≡◌, ◌-◌, Ok, Err, IfErr, length, refl, ap, ◌∙◌, arith}
+use Rattle.mirror.proofs.Errors.{err_from}
+use Rattle.mirror.proofs.Ends.{ended_before, ended_writing, ended_flushed, ended_unfinished, was_run, was_ended, was_run_for, told_for}
+use Rattle.session_model.specs.declared.outcome.RunFault.TheVariants as run
+use Rattle.mirror.specs.declared.runner.Runner.{Runner}
+use Rattle.mirror.proofs.program.run_transcript.Goals as goal
+
+pub returns-in_err-runner-clause-ended : goal.returns-in_err-runner-clause-ended
+returns-in_err-runner-clause-ended g c =
+    err_from c.from_residual.result run.NoMemory _ c.from_residual.ensures.1 (ended_before _ _ _)
+
+pub returns-in_err-flush-clause-ended : goal.returns-in_err-flush-clause-ended
+returns-in_err-flush-clause-ended g c =
+    let e = c.in_err-flush in
+    let r = c.read_all-ended in
+    let settings = ap (λ (r : Runner). r.settings) c.new-state.ensures.runner ∙ c.in_ok-runner.ensures.tracks.settings in
+    err_from c.from_residual-in_err-flush.result e.field-0.0 _ c.from_residual-in_err-flush.ensures.1
+    (was_ended _ _ _ _ _ _ e.field-0.0 settings
+    (ended_writing _ _ _ _ _ _ r.new.self.text.items _ e.field-0.0 r.ensures.stands e.ensures.part refl e.ensures.only))
+
+pub returns-in_err-ended-clause-ended : goal.returns-in_err-ended-clause-ended
+returns-in_err-ended-clause-ended g c =
+    let e = c.in_err-ended in
+    let r = c.read_all-ended in
+    let settings = ap (λ (r : Runner). r.settings) c.new-state.ensures.runner ∙ c.in_ok-runner.ensures.tracks.settings in
+    err_from c.from_residual-in_err-ended.result e.field-0.0 _ c.from_residual-in_err-ended.ensures.1
+    (was_ended _ _ _ _ _ _ e.field-0.0 settings
+    (ended_flushed _ _ _ _ _ _ r.new.self.text.items e.field-0.0 e.ensures.ended c.in_ok-flush.ensures.ok))
+
+pub returns-then-unfinished-gt0-clause-ended : goal.returns-then-unfinished-gt0-clause-ended
+returns-then-unfinished-gt0-clause-ended g c =
+    let same = c.flush.ensures.same in
+    let p = c.read_all-ended.new.self in
+    let count = length c.as_slice.result.now in
+    let line : count ≡ length p.line.items = ap length c.as_slice.ensures.value ∙ ap (λ v. length v.items) same.line in
+    let settings = ap (λ (r : Runner). r.settings) c.new-state.ensures.runner ∙ c.in_ok-runner.ensures.tracks.settings in
+    was_ended _ _ _ _ _ _ _ settings
+    (ended_unfinished _ _ _ _ _ _ p (c.flush.new.self.taken - count) c.in_ok-ended.ensures.ok c.in_ok-ended.ensures.end
+    c.in_ok-flush.ensures.ok (omega (arith, c.if-unfinished-gt0.true, line))
+    (ap (λ n. n - count) same.taken ∙ ap (λ n. p.taken - n) line))
+
+pub returns-clause-ok : goal.returns-clause-ok
+returns-clause-ok g c =
+    let same = c.flush.ensures.same in
+    let p = c.read_all-ended.new.self in
+    let line : length c.as_slice.result.now ≡ length p.line.items =
+    ap length c.as_slice.ensures.value ∙ ap (λ v. length v.items) same.line in
+    let settings = ap (λ (r : Runner). r.settings) c.new-state.ensures.runner ∙ c.in_ok-runner.ensures.tracks.settings in
+    let reports = told_for p.runner c.flush.new.self.runner c.report.result same.runner c.report.ensures in
+    was_run_for _ _ _ _ _ _ c.report.result settings
+    (was_run _ _ _ _ _ _ p c.report.result c.in_ok-ended.ensures.ok c.in_ok-flush.ensures.ok
+    (omega (arith, c.if-unfinished-gt0.false, line)) reports)

@@ -1,6 +1,0 @@
-use Rattle.std.proofs.Common.{◌≡◌, ◌∷◌, ◌++◌, take, flat_map}
-use Rattle.mirror.specs.Words.{spelled}
-use Rattle.mirror.proofs.words.put_more.Given as goal
-
-abbrev pub invariant-loop-word : goal.invariant-loop-word
-invariant-loop-word l = l.text.items ≡ l.initial.text.items ++ flat_map (λ w. 32 ∷ spelled w) (take l.word-index l.words)

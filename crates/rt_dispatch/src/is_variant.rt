@@ -1,0 +1,204 @@
+//! Which variant a message is, by its type.
+
+ghost use Rattle.std.specs.Prelude.{◌≡◌, ◌==◌};
+ghost use Rattle.rt_dispatch.specs.Dispatch.{kind};
+
+use crate::message::*;
+
+impl RouteNetlinkMessage {
+    /// Whether this is a `NewLink`.
+    pub fn is_new_link(&self) -> bool
+        ensures { result ≡ (kind self.now == 16) }
+    {
+        self.message_type() == RTM_NEWLINK
+    }
+
+    /// Whether this is a `DelLink`.
+    pub fn is_del_link(&self) -> bool
+        ensures { result ≡ (kind self.now == 17) }
+    {
+        self.message_type() == RTM_DELLINK
+    }
+
+    /// Whether this is a `GetLink`.
+    pub fn is_get_link(&self) -> bool
+        ensures { result ≡ (kind self.now == 18) }
+    {
+        self.message_type() == RTM_GETLINK
+    }
+
+    /// Whether this is a `SetLink`.
+    pub fn is_set_link(&self) -> bool
+        ensures { result ≡ (kind self.now == 19) }
+    {
+        self.message_type() == RTM_SETLINK
+    }
+
+    /// Whether this is a `NewAddress`.
+    pub fn is_new_address(&self) -> bool
+        ensures { result ≡ (kind self.now == 20) }
+    {
+        self.message_type() == RTM_NEWADDR
+    }
+
+    /// Whether this is a `DelAddress`.
+    pub fn is_del_address(&self) -> bool
+        ensures { result ≡ (kind self.now == 21) }
+    {
+        self.message_type() == RTM_DELADDR
+    }
+
+    /// Whether this is a `GetAddress`.
+    pub fn is_get_address(&self) -> bool
+        ensures { result ≡ (kind self.now == 22) }
+    {
+        self.message_type() == RTM_GETADDR
+    }
+
+    /// Whether this is a `NewRoute`.
+    pub fn is_new_route(&self) -> bool
+        ensures { result ≡ (kind self.now == 24) }
+    {
+        self.message_type() == RTM_NEWROUTE
+    }
+
+    /// Whether this is a `DelRoute`.
+    pub fn is_del_route(&self) -> bool
+        ensures { result ≡ (kind self.now == 25) }
+    {
+        self.message_type() == RTM_DELROUTE
+    }
+
+    /// Whether this is a `GetRoute`.
+    pub fn is_get_route(&self) -> bool
+        ensures { result ≡ (kind self.now == 26) }
+    {
+        self.message_type() == RTM_GETROUTE
+    }
+
+    /// Whether this is a `NewRule`.
+    pub fn is_new_rule(&self) -> bool
+        ensures { result ≡ (kind self.now == 32) }
+    {
+        self.message_type() == RTM_NEWRULE
+    }
+
+    /// Whether this is a `DelRule`.
+    pub fn is_del_rule(&self) -> bool
+        ensures { result ≡ (kind self.now == 33) }
+    {
+        self.message_type() == RTM_DELRULE
+    }
+
+    /// Whether this is a `GetRule`.
+    pub fn is_get_rule(&self) -> bool
+        ensures { result ≡ (kind self.now == 34) }
+    {
+        self.message_type() == RTM_GETRULE
+    }
+
+    /// Whether this is a `NewQueueDiscipline`.
+    pub fn is_new_qdisc(&self) -> bool
+        ensures { result ≡ (kind self.now == 36) }
+    {
+        self.message_type() == RTM_NEWQDISC
+    }
+
+    /// Whether this is a `DelQueueDiscipline`.
+    pub fn is_del_qdisc(&self) -> bool
+        ensures { result ≡ (kind self.now == 37) }
+    {
+        self.message_type() == RTM_DELQDISC
+    }
+
+    /// Whether this is a `GetQueueDiscipline`.
+    pub fn is_get_qdisc(&self) -> bool
+        ensures { result ≡ (kind self.now == 38) }
+    {
+        self.message_type() == RTM_GETQDISC
+    }
+
+    /// Whether this is a `NewTrafficClass`.
+    pub fn is_new_class(&self) -> bool
+        ensures { result ≡ (kind self.now == 40) }
+    {
+        self.message_type() == RTM_NEWTCLASS
+    }
+
+    /// Whether this is a `DelTrafficClass`.
+    pub fn is_del_class(&self) -> bool
+        ensures { result ≡ (kind self.now == 41) }
+    {
+        self.message_type() == RTM_DELTCLASS
+    }
+
+    /// Whether this is a `GetTrafficClass`.
+    pub fn is_get_class(&self) -> bool
+        ensures { result ≡ (kind self.now == 42) }
+    {
+        self.message_type() == RTM_GETTCLASS
+    }
+
+    /// Whether this is a `NewTrafficFilter`.
+    pub fn is_new_filter(&self) -> bool
+        ensures { result ≡ (kind self.now == 44) }
+    {
+        self.message_type() == RTM_NEWTFILTER
+    }
+
+    /// Whether this is a `DelTrafficFilter`.
+    pub fn is_del_filter(&self) -> bool
+        ensures { result ≡ (kind self.now == 45) }
+    {
+        self.message_type() == RTM_DELTFILTER
+    }
+
+    /// Whether this is a `GetTrafficFilter`.
+    pub fn is_get_filter(&self) -> bool
+        ensures { result ≡ (kind self.now == 46) }
+    {
+        self.message_type() == RTM_GETTFILTER
+    }
+
+    /// Whether this is a `NewTrafficAction`.
+    pub fn is_new_action(&self) -> bool
+        ensures { result ≡ (kind self.now == 48) }
+    {
+        self.message_type() == RTM_NEWACTION
+    }
+
+    /// Whether this is a `DelTrafficAction`.
+    pub fn is_del_action(&self) -> bool
+        ensures { result ≡ (kind self.now == 49) }
+    {
+        self.message_type() == RTM_DELACTION
+    }
+
+    /// Whether this is a `GetTrafficAction`.
+    pub fn is_get_action(&self) -> bool
+        ensures { result ≡ (kind self.now == 50) }
+    {
+        self.message_type() == RTM_GETACTION
+    }
+
+    /// Whether this is a `NewTrafficChain`.
+    pub fn is_new_chain(&self) -> bool
+        ensures { result ≡ (kind self.now == 100) }
+    {
+        self.message_type() == RTM_NEWCHAIN
+    }
+
+    /// Whether this is a `DelTrafficChain`.
+    pub fn is_del_chain(&self) -> bool
+        ensures { result ≡ (kind self.now == 101) }
+    {
+        self.message_type() == RTM_DELCHAIN
+    }
+
+    /// Whether this is a `GetTrafficChain`.
+    pub fn is_get_chain(&self) -> bool
+        ensures { result ≡ (kind self.now == 102) }
+    {
+        self.message_type() == RTM_GETCHAIN
+    }
+}

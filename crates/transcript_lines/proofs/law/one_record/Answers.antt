@@ -1,5 +1,0 @@
-use Rattle.transcript_lines.proofs.Injective.{record_of_line}
-use Rattle.transcript_lines.proofs.law.one_record.Goals as goal
-
-pub returns : goal.returns
-returns c = record_of_line

@@ -1,6 +1,0 @@
-use Rattle.transcript_lines.specs.Words.{words_left}
-use Rattle.transcript_lines.proofs.Records.{no_kind}
-use Rattle.transcript_lines.proofs.line.read_record.Goals as goal
-
-pub returns-in-None : goal.returns-in-None
-returns-in-None c = no_kind (words_left c.args.words) c.in-Some.first.now (words_left c.next.new.self) c.in-Some.ensures.steps c.in-None.ensures

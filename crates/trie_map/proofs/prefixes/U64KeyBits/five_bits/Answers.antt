@@ -1,0 +1,6 @@
+use Rattle.std.proofs.Common.{arith}
+use Rattle.trie_model.proofs.MaskLaws.{five_shift}
+use Rattle.trie_map.proofs.prefixes.U64KeyBits.five_bits.Goals as goal
+
+pub returns : goal.returns
+returns c = five_shift 64 c.args.depth c.args.self (omega arith) c.requires.depth

@@ -1,5 +1,0 @@
-use Rattle.trie_model.proofs.TrieLaws.{cleared}
-use Rattle.trie_map.proofs.refs.without.Goals as goal
-
-pub returns : goal.returns
-returns c = cleared c.args.bit c.args.bitmap c.requires
