@@ -1,0 +1,56 @@
+-- The networks that are blocked at a place: those that a record before it blocked, and no later one unblocked.
+use Rattle.std.specs.Prelude.{◌==◌, ◌&&◌, ◌++◌, ℕ, Bool, false, not, if◌then◌else◌, List, [], ◌∷◌}
+use Rattle.std.specs.List.{filter, list_any}
+use Rattle.std.specs.Slice.Scan.{big_endian}
+use Rattle.session_model.specs.Events.{Event, Sent, Came, Unread, Leftover, Overran, Shut, Other, Aside, Blocked, Unblocked, LookedUp}
+use Rattle.mirror_model.specs.declared.network.Network.{Network}
+use Rattle.mirror_model.specs.declared.network.Network.TheVariants as network
+use Rattle.mirror_model.specs.Routes.{width_of, number_of, length_of, without_host_bits}
+
+-- The network of an address family, octets and a length, without host bits: of AF_INET (2) or AF_INET6 (10), no other.
+abbrev pub network_of : ℕ → List ℕ → ℕ → List Network
+network_of family octets length =
+    if family == 2 then without_host_bits (network.V4 (big_endian 0 octets, length)) ∷ []
+    else if family == 10 then without_host_bits (network.V6 (big_endian 0 octets, length)) ∷ []
+    else []
+
+-- Two networks of a family with the same number and length.
+abbrev pub is_same : Network → Network → Bool
+is_same a b = (width_of a == width_of b) && (number_of a == number_of b) && (length_of a == length_of b)
+
+-- The network that a record blocks.
+abbrev pub blocked_by : Aside → List Network
+blocked_by (Blocked family octets length) = network_of family octets length
+blocked_by (Unblocked family octets length) = []
+blocked_by (LookedUp family octets) = []
+
+-- The network that a record unblocks.
+abbrev pub unblocked_by : Aside → List Network
+unblocked_by (Blocked family octets length) = []
+unblocked_by (Unblocked family octets length) = network_of family octets length
+unblocked_by (LookedUp family octets) = []
+
+-- What an event blocks.
+abbrev pub newly_blocked : {M : Type 0} → Event M → List Network
+newly_blocked (Sent to frames) = []
+newly_blocked (Came m source) = []
+newly_blocked (Unread kind number source) = []
+newly_blocked (Leftover count source) = []
+newly_blocked Overran = []
+newly_blocked Shut = []
+newly_blocked (Other aside) = blocked_by aside
+
+-- Whether an event unblocks a network.
+abbrev pub unblocks : {M : Type 0} → Network → Event M → Bool
+unblocks n (Sent to frames) = false
+unblocks n (Came m source) = false
+unblocks n (Unread kind number source) = false
+unblocks n (Leftover count source) = false
+unblocks n Overran = false
+unblocks n Shut = false
+unblocks n (Other aside) = list_any (λ u. is_same u n) (unblocked_by aside)
+
+-- What is blocked after events: each network that was blocked, and that no later event unblocks.
+abbrev pub blocked_at : {M : Type 0} → List (Event M) → List Network
+blocked_at [] = []
+blocked_at (e ∷ es) = filter (λ n. not (list_any (λ later. unblocks n later) es)) (newly_blocked e) ++ blocked_at es

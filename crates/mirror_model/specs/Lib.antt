@@ -1,0 +1,14 @@
+pub mod Tables
+pub mod TableEvents
+pub mod MirrorState
+pub mod Clean
+pub mod Orderly
+pub mod FiniteTables
+pub mod Sessions
+pub mod Routes
+pub mod Blocked
+pub mod Lookups
+pub mod RouteChanges
+pub mod Honest
+pub mod Laws
+pub mod Example
