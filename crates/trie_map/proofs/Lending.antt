@@ -9,12 +9,13 @@ use Rattle.trie_model.specs.Maps.{MapOk, inserted, map_of, value_at}
 use Rattle.trie_model.specs.Nets.{Net, IsNet}
 use Rattle.trie_model.specs.Puts.{HasItem, HoldsAt, PutAt, Puts}
 use Rattle.trie_model.specs.Tries.{Full, Good, slot_of}
-use Rattle.trie_model.proofs.CountLaws.{value_of_map}
+use Rattle.trie_model.proofs.MapLists.{value_of_map}
 use Rattle.trie_model.proofs.FullLaws.{full_child, full_put, full_same, some_at}
 use Rattle.trie_model.proofs.MapLaws.{at_map, map_at}
 use Rattle.trie_model.proofs.NodeLaws.{good_child, good_here}
 use Rattle.trie_model.proofs.Places.{bit_below}
-use Rattle.trie_model.proofs.PutLaws.{at_item, at_kid, item_good, item_puts, kid_good, kid_puts, kid_was, levels, put_in}
+use Rattle.trie_model.proofs.PutLaws.{at_item, at_kid, item_puts, kid_puts, kid_was, levels}
+use Rattle.trie_model.proofs.PutNodes.{item_good, kid_good, put_in}
 use Rattle.trie_model.proofs.SlotLaws.{put_over}
 use Rattle.trie_model.proofs.TrieMaps.{list_of, of_width, put_done, put_over as map_put_over}
 use Rattle.trie_map.specs.Shape.{node_shape}
@@ -26,6 +27,7 @@ use Rattle.trie_map.specs.declared.node.Node.TheViews.{out-roll-Node}
 pub placed : {X : Type 0} (m place bit b : ℕ) (xs : List X) (x : X) → HoldsAt m xs b x → bit ≡ b → place ≡ slot_of m bit → slice_get xs place ≡ Some x
 placed m place bit b xs x h e is = ap (λ p. slice_get xs p) (is ∙ ap (slot_of m) e) ∙ h.1
 
+-- What is put at a bit's place stands at that bit.
 pub placed_back : {X : Type 0} (m place bit b : ℕ) (xs : List X) (x y : X) → HoldsAt m xs b x → bit ≡ b → place ≡ slot_of m bit → slice_get xs place ≡ Some y → HoldsAt m xs b y
 placed_back m place bit b xs x y h e is at = (h.0, sym (ap (λ p. slice_get xs p) (is ∙ ap (slot_of m) e)) ∙ at)
 
@@ -107,6 +109,7 @@ kid_lent {T} w d node child child' n x long ok good full held rec =
       puts = kid_puts node_shape w d bit n x node new child child' ok long refl put' (record { data_bits = data_bits; items = items }) (kid_was node_shape w d bit node child held) rec.puts;
     }
 
+-- A node that lent an item is, with what was left there, the node with that item for the prefix.
 pub lent : {T : Type 0} (w d k : ℕ) (node : Node T) (n : Net) (x y : T) → k ≡ (n.len - d) / 5 → d ≤ n.len → IsNet w n
     → ((j : ℕ) → Good node_shape w j d node) → ((j : ℕ) → Full node_shape j node) → HasItem node_shape w d node n y → Lent w d n x node
     (with_below w d k node n x)

@@ -190,7 +190,8 @@ impl<P: PlainPrefix, T> PrefixMap<P, T> {
     fn entry_mut(&mut self, prefix: &P) -> &mut T
         requires len { (P.net prefix.now).len ≤ P.Number.width }
         requires there { IsSome (value_at self.old (P.net prefix.now)) }
-        ensures* lends { sem 𝓛 (Lends (the_row P.row T.row P.Number.row P.PlainPrefix P.Number.KeyBits) T.row self.entry result (inserted P.Number.width self.entry.now (P.net prefix.now))) }
+        ensures* lends { sem 𝓛 (Lends (the_row P.row T.row P.Number.row P.PlainPrefix P.Number.KeyBits) T.row
+            self.entry result (inserted P.Number.width self.entry.now (P.net prefix.now))) }
         ensures value { value_at self.old (P.net prefix.now) ≡ Some result.now }
     {
         let key = prefix.number();
@@ -201,7 +202,8 @@ impl<P: PlainPrefix, T> PrefixMap<P, T> {
     /// other entries stay.
     pub fn get_mut(&mut self, prefix: &P) -> Option<&mut T>
         requires { (P.net prefix.now).len ≤ P.Number.width }
-        ensures* lends { sem 𝓛 (LendsIf (the_row P.row T.row P.Number.row P.PlainPrefix P.Number.KeyBits) T.row self.entry result (inserted P.Number.width self.entry.now (P.net prefix.now)) self.entry.now) }
+        ensures* lends { sem 𝓛 (LendsIf (the_row P.row T.row P.Number.row P.PlainPrefix P.Number.KeyBits) T.row
+            self.entry result (inserted P.Number.width self.entry.now (P.net prefix.now)) self.entry.now) }
         ensures value { option_copied_mut result ≡ value_at self.old (P.net prefix.now) }
     {
         if self.contains_key(prefix) {

@@ -5,9 +5,9 @@ ghost use Rattle.trie_model.specs.Maps.{inserted, value_at};
 
 use crate::{
     AsView, CloneView, KeyBits, PlainPrefix, Prefix, PrefixMap, PrefixSet, Steps, TrieView,
-    TryClone, child_bit, child_cover_mask, child_cover_mask_for_bit, data_bit, data_cover_mask,
-    data_cover_mask_for_bit, data_lpm_mask, extend_repr, lies_in, mask_from_prefix_len,
-    reconstruct_prefix, walk_gives_the_list,
+    TryClone, ViewIter, child_bit, child_cover_mask, child_cover_mask_for_bit, data_bit,
+    data_cover_mask, data_cover_mask_for_bit, data_lpm_mask, extend_repr, lies_in,
+    mask_from_prefix_len, reconstruct_prefix, walk_gives_the_list,
 };
 use std::process::Abort;
 use std::test::Fail;
@@ -202,7 +202,8 @@ fn clones(rt: HostRuntime) -> Result<(), Fail> {
 /// Writes the value of a prefix that has one: what a caller of `get_mut` knows.
 fn overwrite<P: PlainPrefix, T: Drop>(map: &mut PrefixMap<P, T>, prefix: &P, value: T)
     requires { (P.net prefix.now).len ≤ P.Number.width }
-    ensures there { IsSome (value_at map.old (P.net prefix.now)) → map.new ≡ inserted P.Number.width map.old (P.net prefix.now) value }
+    ensures there { IsSome (value_at map.old (P.net prefix.now))
+        → map.new ≡ inserted P.Number.width map.old (P.net prefix.now) value }
     ensures not_there { value_at map.old (P.net prefix.now) ≡ None → map.new ≡ map.old }
 {
     if let Some(item) = map.get_mut(prefix) {
@@ -312,6 +313,74 @@ fn the_last_entry_of_a_chain(rt: HostRuntime) -> Result<(), Fail> {
     assert!(rt; set.view_at(&(0, 0)).is_none());
     let view = set.view();
     assert_eq!(rt; (view.data_bitmap(), view.child_bitmap()), (0, 0));
+    Ok(())
+}
+
+#[test]
+fn walks_of_a_set(rt: HostRuntime) -> Result<(), Fail> {
+    let mut set: PrefixSet<(u32, u8)> = PrefixSet::new(rt.alloc());
+    assert_eq!(rt; set.insert((0x0A00_0000, 8)), Ok(true));
+    let Ok(mut walk) = set.iter() else {
+        return Err("no memory".into());
+    };
+    assert_eq!(rt;
+        walk.next().map(|pair| pair.map(|found| found.0)),
+        Some(Ok((0x0A00_0000, 8)))
+    );
+    let Ok(mut walk) = set.iter_from(&(0x0A00_0000, 8), false) else {
+        return Err("no memory".into());
+    };
+    assert!(rt; walk.next().is_none());
+    Ok(())
+}
+
+#[test]
+fn walks_of_a_view(rt: HostRuntime) -> Result<(), Fail> {
+    let mut map: PrefixMap<(u32, u8), u32> = PrefixMap::new(rt.alloc());
+    assert_eq!(rt; map.insert((0x0A00_0000, 8), 2), Ok(None));
+    let Ok(mut walk) = ViewIter::new(rt.alloc(), map.view()) else {
+        return Err("no memory".into());
+    };
+    assert_eq!(rt;
+        walk.next().map(|pair| pair.map(|found| *found.1)),
+        Some(Ok(2))
+    );
+    let Ok(mut walk) = ViewIter::starting(rt.alloc(), map.view(), &(0x0A00_0001, 32), true) else {
+        return Err("no memory".into());
+    };
+    assert!(rt; walk.next().is_none());
+    Ok(())
+}
+
+#[test]
+fn getters_of_a_view(rt: HostRuntime) -> Result<(), Fail> {
+    let mut map: PrefixMap<(u32, u8), u32> = PrefixMap::new(rt.alloc());
+    assert_eq!(rt; map.insert((0x8000_0000, 1), 1), Ok(None));
+    assert_eq!(rt; map.insert((0x0800_0000, 5), 2), Ok(None));
+    let mut view = map.view();
+    assert_eq!(rt; view.data_bitmap(), 4);
+    let Ok(item) = view.get_data(2) else {
+        return Err("no memory".into());
+    };
+    assert_eq!(rt; *item, 1);
+    assert_eq!(rt; view.child_bitmap(), 2);
+    let mut steps = Steps::start();
+    let child = view.get_child(1, &mut steps)?;
+    assert_eq!(rt; (child.key(), child.prefix_len()), (0x0800_0000, 5));
+    assert_eq!(rt; steps.count(), 1);
+    Ok(())
+}
+
+#[test]
+fn a_narrowed_view(rt: HostRuntime) -> Result<(), Fail> {
+    let mut set: PrefixSet<(u32, u8)> = PrefixSet::new(rt.alloc());
+    assert_eq!(rt; set.insert((0x8000_0000, 1)), Ok(true));
+    assert_eq!(rt; set.insert((0, 1)), Ok(true));
+    let mut view = set.view();
+    assert_eq!(rt; (view.key(), view.prefix_len()), (0, 0));
+    view.reposition(0x8000_0000, 1);
+    assert_eq!(rt; (view.key(), view.prefix_len()), (0x8000_0000, 1));
+    assert_eq!(rt; view.data_bitmap(), 4);
     Ok(())
 }
 

@@ -185,9 +185,11 @@ fn descend<'a, V: TrieView<'a>, S>(
     requires deep { 5 * length levels.old.items ≤ (V.told view).place.len }
     ensures usable { OnOk result (StackOk V.valid V.told V.P.Number.width levels.new) }
     ensures room { OnOk result (StackHasRoom V.told V.P.Number.width levels.new) }
-    ensures left { OnOk result (StackGains V.told V.P.Number.width inclusive (net_of (V.P.Number.number key) len) view levels.old levels.new) }
+    ensures left { OnOk result (StackGains V.told V.P.Number.width inclusive
+        (net_of (V.P.Number.number key) len) view levels.old levels.new) }
     ensures frugal { IsTrue (V.told view).frugal → IsOk result }
-    ensures stays { AreFrugal V.told levels.old → IsTrue (V.told view).frugal → OnOk result (AreFrugal V.told levels.new) }
+    ensures stays { AreFrugal V.told levels.old → IsTrue (V.told view).frugal
+        → OnOk result (AreFrugal V.told levels.new) }
 {
     'down: loop {
         let depth = view.depth();
@@ -223,7 +225,8 @@ fn enter<'a, V: TrieView<'a>, S>(
     requires room { V.P.Number.width / 5 + 1 ≤ vec_capacity levels.old }
     ensures usable { OnOk result (StackOk V.valid V.told V.P.Number.width levels.new) }
     ensures room { OnOk result (StackHasRoom V.told V.P.Number.width levels.new) }
-    ensures left { OnOk result (StackIsFrom V.told V.P.Number.width inclusive (net_of (V.P.Number.number key) len) view levels.new) }
+    ensures left { OnOk result (StackIsFrom V.told V.P.Number.width inclusive
+        (net_of (V.P.Number.number key) len) view levels.new) }
     ensures frugal { IsTrue (V.told view).frugal → IsOk result }
     ensures stays { IsTrue (V.told view).frugal → OnOk result (AreFrugal V.told levels.new) }
 {

@@ -8,7 +8,8 @@ use Rattle.trie_model.specs.Walks.{Within, Ascends, IsListOf, ListGoesOn}
 use Rattle.trie_model.specs.Maps.{map_of, put_pair, inserted}
 use Rattle.trie_model.proofs.Places.{not_true}
 use Rattle.trie_model.proofs.SpotLaws.{ltb-lt}
-use Rattle.trie_model.proofs.CountLaws.{nothing_removed, list_of_map}
+use Rattle.trie_model.proofs.CountLaws.{nothing_removed}
+use Rattle.trie_model.proofs.MapLists.{list_of_map}
 use Rattle.trie_model.proofs.MapLaws.{at_map}
 use Rattle.trie_model.proofs.TrieMaps.{list_of, of_width}
 

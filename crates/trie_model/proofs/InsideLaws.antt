@@ -16,15 +16,17 @@ use Rattle.trie_model.proofs.Places.{both_hold, depth_le, bit_below, covers_len,
 use Rattle.trie_model.proofs.SpotLaws.{net_back}
 use Rattle.trie_model.proofs.MaskLaws.{masked_net}
 use Rattle.trie_model.proofs.NodeLaws.{slot-lt, has_at, covers_trans}
-use Rattle.trie_model.proofs.TrieLaws.{among_at, ref_laws, ref_node, ref_child, ref_moved, ref_moved_ok, data_narrowed, children_narrowed}
+use Rattle.trie_model.proofs.TrieLaws.{among_at, ref_laws}
+use Rattle.trie_model.proofs.PlaceMoves.{ref_node, ref_child, ref_moved, ref_moved_ok, data_narrowed, children_narrowed}
 use Rattle.trie_model.proofs.RootLaws.{no_bit, ref_whole}
 use Rattle.trie_model.proofs.SlotLaws.{less_or, same_or}
-use Rattle.trie_model.proofs.PutLaws.{kid_was, kid_none}
+use Rattle.trie_model.proofs.PutLaws.{kid_was}
+use Rattle.trie_model.proofs.PutNodes.{kid_none}
 use Rattle.trie_model.proofs.FullLaws.{full_child, some_bit}
 use Rattle.trie_model.proofs.LongestLaws.{toward_masked}
 use Rattle.trie_model.proofs.WalkLaws.{either, short_small}
 use Rattle.trie_model.proofs.MapLaws.{map_at, at_map}
-use Rattle.trie_model.proofs.CountLaws.{list_of_map}
+use Rattle.trie_model.proofs.MapLists.{list_of_map}
 use Rattle.trie_model.proofs.TrieMaps.{list_of, of_width}
 
 -- ---- the way down

@@ -2,14 +2,18 @@ pub mod Places
 pub mod RoomLaws
 pub mod CommonBits
 pub mod SpotLaws
+pub mod SpotOrder
 pub mod MaskLaws
+pub mod MaskNets
 pub mod NodeLaws
 pub mod WorkLaws
 pub mod SlotLaws
 pub mod TrieLaws
+pub mod PlaceMoves
 pub mod RootLaws
 pub mod WalkLaws
 pub mod PutLaws
+pub mod PutNodes
 pub mod WalkSteps
 pub mod FullLaws
 pub mod GatherLaws
@@ -19,6 +23,7 @@ pub mod MapLaws
 pub mod StartLaws
 pub mod TakeLaws
 pub mod CountLaws
+pub mod MapLists
 pub mod RestLaws
 pub mod DownLaws
 pub mod TrieMaps

@@ -9,7 +9,7 @@ use Rattle.trie_model.proofs.Places.{elim-false, not_true}
 use Rattle.trie_model.proofs.TrieLaws.{same_net_is, same_back}
 use Rattle.trie_model.proofs.WalkLaws.{either}
 use Rattle.trie_model.proofs.WalkSteps.{by_covers}
-use Rattle.trie_model.proofs.CountLaws.{pair_of, list_of_map}
+use Rattle.trie_model.proofs.MapLists.{pair_of, list_of_map}
 use Rattle.trie_model.specs.Tries.{NodeShape}
 use Rattle.trie_model.specs.Maps.{map_of}
 use Rattle.trie_model.proofs.TrieMaps.{list_of, of_width}

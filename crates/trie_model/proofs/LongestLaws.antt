@@ -18,7 +18,8 @@ use Rattle.trie_model.proofs.MaskLaws.{data_bit_net}
 use Rattle.trie_model.proofs.RootLaws.{no_bit}
 use Rattle.trie_model.proofs.WalkLaws.{short_small}
 use Rattle.trie_model.proofs.SlotLaws.{less_or}
-use Rattle.trie_model.proofs.PutLaws.{at_item, item_at, kid_none, kid_was}
+use Rattle.trie_model.proofs.PutLaws.{at_item, item_at, kid_was}
+use Rattle.trie_model.proofs.PutNodes.{kid_none}
 
 -- A later bit of a node is no shorter.
 level_table : all_under 31 (λ a. all_under 31 (λ b. if_then (leb a b) (leb (level_of a) (level_of b)))) ≡ true

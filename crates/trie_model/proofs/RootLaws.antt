@@ -13,7 +13,8 @@ use Rattle.trie_model.specs.Spots.{prefix_net}
 use Rattle.trie_model.proofs.SpotLaws.{data_low}
 use Rattle.trie_model.specs.Tries.{slot_of, NodeShape, Full, Good, RefOk, ref_told}
 use Rattle.trie_model.proofs.NodeLaws.{level_net, good_here}
-use Rattle.trie_model.proofs.TrieLaws.{data_inside, kid_inside, ref_child, same_place}
+use Rattle.trie_model.proofs.TrieLaws.{data_inside, kid_inside}
+use Rattle.trie_model.proofs.PlaceMoves.{ref_child, same_place}
 
 -- ---- the root, and a node with nothing
 

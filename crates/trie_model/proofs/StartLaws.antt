@@ -11,7 +11,8 @@ use Rattle.trie_model.specs.Spots.{rank_at, bits_toward, spot_of, data_bit_of, n
 use Rattle.trie_model.specs.Views.{ViewValue, IsView, TookChild, IsChild, depth_at, data_net, child_net}
 use Rattle.trie_model.specs.Walks.{Left, LevelOk, WalkOk, Roomy, From, rest}
 use Rattle.trie_model.proofs.Places.{both_hold, depth_le, covers_len, covers_bits, covers_way, toward_covers}
-use Rattle.trie_model.proofs.SpotLaws.{net_back, in_spot, spot_order, InSpot, lower_bits, lower_len}
+use Rattle.trie_model.proofs.SpotLaws.{net_back}
+use Rattle.trie_model.proofs.SpotOrder.{in_spot, spot_order, InSpot, lower_bits, lower_len}
 use Rattle.trie_model.proofs.SlotLaws.{less_or, same_or}
 use Rattle.trie_model.proofs.WalkLaws.{either, left_top, left_under, left_cases, sorted_push, pair_spot, rank_less, rank_next, spot_short, spot_long, spot_data, spot_child_pair, short_small}
 use Rattle.trie_model.proofs.WalkSteps.{each_push, by_covers}

@@ -16,7 +16,8 @@ use Rattle.trie_model.proofs.NodeLaws.{slot-lt, same_some, good_here, good_child
 use Rattle.trie_model.proofs.TrieLaws.{kept_bit}
 use Rattle.trie_model.specs.Puts.{TakenAt, HoldsAt, OneBit, PutAt, HasItem, Toward, Keeps, TakeIn}
 use Rattle.trie_model.proofs.SlotLaws.{same_or, less_or, slots_low, ones_more, slots_high, slot_later, at_plus, put_over}
-use Rattle.trie_model.proofs.PutLaws.{SameKids, SameItems, item_puts, kid_puts, kid_keeps, kid_was, none_was, good_make, here_none, held_at}
+use Rattle.trie_model.proofs.PutLaws.{SameKids, SameItems, item_puts, kid_puts, kid_keeps, kid_was, none_was}
+use Rattle.trie_model.proofs.PutNodes.{good_make, here_none, held_at}
 
 -- ---- a bit and its item are taken away: the old ones are the new ones with this one put
 

@@ -11,7 +11,7 @@ use Rattle.trie_model.specs.Longest.{LongestIn}
 use Rattle.trie_model.proofs.MapLaws.{none_masked, map_at, at_map, map_put, map_keeps, map_was, map_take, map_empty, map_longest, none_if}
 use Rattle.std.proofs.lemmas.Bool.{le-leb, eq-eqb}
 use Rattle.trie_model.proofs.Places.{both_hold}
-use Rattle.trie_model.proofs.CountLaws.{OfWidth, list_of_map, value_of_map, pairs_none, pairs_with, pairs_without, length_with, length_over, length_without}
+use Rattle.trie_model.proofs.MapLists.{OfWidth, list_of_map, value_of_map, pairs_none, pairs_with, pairs_without, length_with, length_over, length_without}
 
 -- The map of a trie has prefixes of its width alone.
 pub of_width : {N X : Type 0} (f : NodeShape N X) (w : ℕ) (node : N) → OfWidth w (map_of f w node)

@@ -10,7 +10,8 @@ use Rattle.trie_model.specs.Nets.{Net, covers, masked}
 use Rattle.trie_model.specs.Views.{depth_at, net_of_bit, data_net, child_net, ViewValue, IsView, TookData, TookChild, IsChild}
 use Rattle.trie_model.proofs.Places.{and_left, and_right, both_hold, elim-false, depth_le, level_le, covers_len, covers_way, covers_toward, toward_covers}
 use Rattle.trie_model.specs.Spots.{rank_at, bits_toward, spot_of, data_bit_of, all_under, ltb, order_key, next_spot}
-use Rattle.trie_model.proofs.SpotLaws.{under, under2, if_then, by_if, lt-ltb, ltb-lt, not_less_le, InSpot, in_spot, spot_order, net_back, bit_back}
+use Rattle.trie_model.proofs.SpotLaws.{under, under2, if_then, by_if, lt-ltb, ltb-lt, net_back, bit_back}
+use Rattle.trie_model.proofs.SpotOrder.{not_less_le, InSpot, in_spot, spot_order}
 
 -- The pairs of the top level are left.
 pub left_top : {L X : Type 0} (tell : L → ViewValue X) (ls : List L) (l : L) (n : Net) (x : X) → (tell l).at n x → Left tell (ls ++ l ∷ []) n x

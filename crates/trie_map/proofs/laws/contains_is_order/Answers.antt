@@ -1,5 +1,5 @@
 use Rattle.trie_model.proofs.NodeLaws.{covers_trans}
-use Rattle.trie_model.proofs.CountLaws.{covers_same, covers_both}
+use Rattle.trie_model.proofs.MapLists.{covers_same, covers_both}
 use Rattle.trie_map.proofs.laws.contains_is_order.Goals as goal
 
 pub returns-clause-reflexive : goal.returns-clause-reflexive

@@ -1,4 +1,4 @@
-use Rattle.trie_model.proofs.CountLaws.{unique}
+use Rattle.trie_model.proofs.MapLists.{unique}
 use Rattle.trie_map.proofs.laws.one_list_in_order.Goals as goal
 
 pub returns : goal.returns

@@ -1,4 +1,5 @@
-use Rattle.trie_model.proofs.CountLaws.{order_is, order_apart}
+use Rattle.trie_model.proofs.CountLaws.{order_apart}
+use Rattle.trie_model.proofs.MapLists.{order_is}
 use Rattle.trie_map.proofs.laws.order_is_total.Goals as goal
 
 pub returns-clause-before : goal.returns-clause-before

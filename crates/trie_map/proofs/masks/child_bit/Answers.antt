@@ -1,5 +1,5 @@
-use Rattle.trie_model.proofs.SpotLaws.{five_small}
-use Rattle.trie_model.proofs.MaskLaws.{five_toward}
+use Rattle.trie_model.proofs.SpotOrder.{five_small}
+use Rattle.trie_model.proofs.MaskNets.{five_toward}
 use Rattle.std.proofs.Common.{arith}
 use Rattle.trie_map.proofs.masks.child_bit.Goals as goal
 

@@ -1,7 +1,8 @@
 use Rattle.std.proofs.Common.{◌+◌, ◌∙◌, ap, arith, cond}
 use Rattle.std.specs.Int.{bit_at}
 use Rattle.trie_model.specs.Spots.{children_below}
-use Rattle.trie_model.proofs.MaskLaws.{children_are, child_in_bit}
+use Rattle.trie_model.proofs.MaskLaws.{children_are}
+use Rattle.trie_model.proofs.MaskNets.{child_in_bit}
 use Rattle.trie_map.proofs.masks.child_cover_mask.Goals as goal
 
 pub returns-clause-mask : goal.returns-clause-mask

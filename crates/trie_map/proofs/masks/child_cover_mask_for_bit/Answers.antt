@@ -1,6 +1,7 @@
 use Rattle.std.proofs.Common.{◌+◌, ◌∙◌, ap, arith}
 use Rattle.std.specs.Int.{bit_at}
-use Rattle.trie_model.proofs.MaskLaws.{child_fits, child_is, for_bit_children}
+use Rattle.trie_model.proofs.MaskLaws.{child_fits, child_is}
+use Rattle.trie_model.proofs.MaskNets.{for_bit_children}
 use Rattle.trie_map.proofs.masks.child_cover_mask_for_bit.Goals as goal
 
 pub overflow_cast-result-2 : goal.overflow_cast-result-2

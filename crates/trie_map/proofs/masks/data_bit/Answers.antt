@@ -1,6 +1,6 @@
 use Rattle.std.proofs.Common.{◌-◌, ◌∙◌, ap, arith}
 use Rattle.trie_model.specs.Views.{net_of_bit}
-use Rattle.trie_model.proofs.SpotLaws.{five_small}
+use Rattle.trie_model.proofs.SpotOrder.{five_small}
 use Rattle.trie_model.proofs.MaskLaws.{bit_is, bit_code_small, data_bit_net}
 use Rattle.trie_map.proofs.masks.data_bit.Goals as goal
 

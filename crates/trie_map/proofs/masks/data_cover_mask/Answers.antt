@@ -1,7 +1,8 @@
 use Rattle.std.proofs.Common.{◌+◌, ◌∙◌, ap, arith, cond}
 use Rattle.std.specs.Int.{bit_at}
 use Rattle.trie_model.specs.Spots.{rows_below}
-use Rattle.trie_model.proofs.MaskLaws.{rows_are, bit_in_bit}
+use Rattle.trie_model.proofs.MaskLaws.{rows_are}
+use Rattle.trie_model.proofs.MaskNets.{bit_in_bit}
 use Rattle.trie_map.proofs.masks.data_cover_mask.Goals as goal
 
 pub returns-clause-mask : goal.returns-clause-mask

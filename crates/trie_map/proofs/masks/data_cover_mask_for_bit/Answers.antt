@@ -1,7 +1,8 @@
 use Rattle.std.proofs.Common.{◌≡◌, ℕ, ◌+◌, ◌<◌, ◌∙◌, ap, arith}
 use Rattle.std.specs.Int.{bit_at}
 use Rattle.trie_model.specs.Spots.{row_below}
-use Rattle.trie_model.proofs.MaskLaws.{rows_fit, for_bit_rows, sum_is}
+use Rattle.trie_model.proofs.MaskLaws.{rows_fit}
+use Rattle.trie_model.proofs.MaskNets.{for_bit_rows, sum_is}
 use Rattle.trie_map.proofs.masks.data_cover_mask_for_bit.Goals as goal
 
 all : (bit : ℕ) → bit < 31 → row_below (bit + 1) 0 + row_below (bit + 1) 1 + row_below (bit + 1) 2 + row_below (bit + 1) 3 + row_below (bit + 1) 4 < 2147483648

@@ -1,7 +1,8 @@
 use Rattle.std.proofs.Common.{◌+◌, ◌∙◌, ap, arith, cond}
 use Rattle.std.specs.Int.{bit_at}
-use Rattle.trie_model.proofs.SpotLaws.{five_small}
-use Rattle.trie_model.proofs.MaskLaws.{above_fit, above_are, bit_above_bit, bit_above_child}
+use Rattle.trie_model.proofs.SpotOrder.{five_small}
+use Rattle.trie_model.proofs.MaskLaws.{above_fit, above_are}
+use Rattle.trie_model.proofs.MaskNets.{bit_above_bit, bit_above_child}
 use Rattle.trie_map.proofs.masks.data_lpm_mask.Goals as goal
 
 pub returns-then-len-depth-lt5-clause-mask : goal.returns-then-len-depth-lt5-clause-mask

@@ -1,7 +1,8 @@
 use Rattle.std.proofs.Common.{arith, ◌∙◌, ◌≡◌, ◌*◌, ◌%◌, ◌^◌}
 use Rattle.trie_model.specs.Views.{level_of}
 use Rattle.trie_model.proofs.Places.{level_le}
-use Rattle.trie_model.proofs.MaskLaws.{level_same, shl_level}
+use Rattle.trie_model.proofs.MaskLaws.{level_same}
+use Rattle.trie_model.proofs.MaskNets.{shl_level}
 use Rattle.trie_model.proofs.RootLaws.{rebuilt, rebuilt_bits}
 use Rattle.trie_map.proofs.masks.reconstruct_prefix.Goals as goal
 

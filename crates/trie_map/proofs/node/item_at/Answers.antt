@@ -1,6 +1,6 @@
 use Rattle.std.proofs.Common.{arith}
 use Rattle.trie_model.proofs.NodeLaws.{slot-lt}
-use Rattle.trie_model.proofs.PutLaws.{held_at}
+use Rattle.trie_model.proofs.PutNodes.{held_at}
 use Rattle.trie_map.proofs.node.item_at.Goals as goal
 
 pub index-requires : goal.index-requires

@@ -2,7 +2,7 @@ use Rattle.std.proofs.Common.{subst, sym}
 use Rattle.trie_map.specs.Shape.{node_shape}
 use Rattle.trie_model.specs.Walks.{Within, Ascends}
 use Rattle.trie_model.specs.Maps.{map_of}
-use Rattle.trie_model.proofs.CountLaws.{list_of_map}
+use Rattle.trie_model.proofs.MapLists.{list_of_map}
 use Rattle.trie_model.proofs.TrieMaps.{of_width}
 use Rattle.trie_map.proofs.map.PrefixMap.in_order.Goals as goal
 

@@ -3,7 +3,8 @@ use Rattle.std.specs.declared.alloc.AllocFailed.{AllocFailed}
 use Rattle.trie_model.proofs.NodeLaws.{good_here, good_child, slot-lt}
 use Rattle.trie_model.proofs.FullLaws.{full_child, full_put, full_same, some_put, some_new}
 use Rattle.trie_map.specs.Shape.{node_shape}
-use Rattle.trie_model.proofs.PutLaws.{test_on, test_off, same_keeps, same_good, held_at, kid_done_good, kid_result, kid_was, none_was, put_in}
+use Rattle.trie_model.proofs.PutLaws.{same_keeps, kid_was, none_was}
+use Rattle.trie_model.proofs.PutNodes.{test_on, test_off, same_good, held_at, kid_done_good, kid_result, put_in}
 use Rattle.trie_model.proofs.SlotLaws.{put_over}
 use Rattle.trie_map.specs.declared.node.Node.TheViews.{out-Node, the_lemmas}
 use Rattle.trie_map.proofs.node.grow.+insert_below.Goals as goal

@@ -2,7 +2,7 @@ use Rattle.std.proofs.Common.{rules, subst, sym, ap, ◌≡◌, slice_set}
 use Rattle.std.specs.Prelude.{get_or}
 use Rattle.trie_model.proofs.NodeLaws.{slot-lt}
 use Rattle.trie_model.proofs.SlotLaws.{put_over}
-use Rattle.trie_model.proofs.PutLaws.{held_at}
+use Rattle.trie_model.proofs.PutNodes.{held_at}
 use Rattle.trie_map.proofs.node.grow.exchange.Goals as goal
 
 pub index_mut-requires : goal.index_mut-requires

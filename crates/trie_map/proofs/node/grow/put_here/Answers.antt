@@ -1,7 +1,8 @@
 use Rattle.std.proofs.Common.{rules, refl}
 use Rattle.trie_model.proofs.NodeLaws.{good_here}
 use Rattle.trie_map.specs.Shape.{node_shape}
-use Rattle.trie_model.proofs.PutLaws.{here_good, here_puts, here_was, here_none, test_off, same_keeps, same_good}
+use Rattle.trie_model.proofs.PutLaws.{same_keeps}
+use Rattle.trie_model.proofs.PutNodes.{here_good, here_puts, here_was, here_none, test_off, same_good}
 use Rattle.trie_map.specs.declared.node.Node.TheViews.{the_lemmas}
 use Rattle.trie_map.proofs.node.grow.put_here.Goals as goal
 

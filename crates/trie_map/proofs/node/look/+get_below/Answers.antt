@@ -3,7 +3,7 @@ use Rattle.trie_map.specs.Shape.{node_shape}
 use Rattle.std.specs.Int.{bit_at}
 use Rattle.trie_model.specs.Puts.{Gets}
 use Rattle.trie_model.proofs.NodeLaws.{good_here, good_child}
-use Rattle.trie_model.proofs.PutLaws.{test_off, here_was, here_none, kid_none, kid_gets}
+use Rattle.trie_model.proofs.PutNodes.{test_off, here_was, here_none, kid_none, kid_gets}
 use Rattle.trie_model.proofs.LongestLaws.{good_there}
 use Rattle.trie_map.proofs.node.look.+get_below.Goals as goal
 

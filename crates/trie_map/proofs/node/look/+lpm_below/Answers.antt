@@ -3,7 +3,7 @@ use Rattle.trie_map.specs.Shape.{node_shape}
 use Rattle.std.specs.Int.{bit_at}
 use Rattle.trie_model.specs.Longest.{LongestIn}
 use Rattle.trie_model.proofs.NodeLaws.{good_here, good_child}
-use Rattle.trie_model.proofs.PutLaws.{test_off}
+use Rattle.trie_model.proofs.PutNodes.{test_off}
 use Rattle.trie_model.proofs.LongestLaws.{good_there, longest_below, longest_here, none_short, none_child, none_below}
 use Rattle.trie_map.proofs.node.look.+lpm_below.Goals as goal
 

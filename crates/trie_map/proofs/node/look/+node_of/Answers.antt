@@ -4,7 +4,7 @@ use Rattle.trie_map.specs.declared.node.Visited.{Visited}
 use Rattle.std.specs.Int.{bit_at}
 use Rattle.trie_model.specs.Inside.{Reaches}
 use Rattle.trie_model.proofs.NodeLaws.{good_here, good_child}
-use Rattle.trie_model.proofs.PutLaws.{test_off}
+use Rattle.trie_model.proofs.PutNodes.{test_off}
 use Rattle.trie_model.proofs.LongestLaws.{good_there}
 use Rattle.trie_model.proofs.InsideLaws.{full_there, reach_here, reach_below, reach_none}
 use Rattle.trie_model.proofs.FullLaws.{full_child}

@@ -3,7 +3,7 @@ use Rattle.std.specs.Vec.{with_item}
 use Rattle.trie_model.proofs.NodeLaws.{good_here, good_child, slot-lt}
 use Rattle.trie_model.proofs.FullLaws.{full_child, full_but, full_same}
 use Rattle.trie_map.specs.Shape.{node_shape}
-use Rattle.trie_model.proofs.PutLaws.{test_on, test_off, held_at, put_in, kid_done_good, kid_none}
+use Rattle.trie_model.proofs.PutNodes.{test_on, test_off, held_at, put_in, kid_done_good, kid_none}
 use Rattle.trie_model.proofs.SlotLaws.{put_over}
 use Rattle.trie_model.proofs.TakeLaws.{put_over_back, kid_taken, take_then, keeps_none}
 use Rattle.trie_map.specs.declared.node.Node.TheViews.{out-Node, roll-Node, the_lemmas}

@@ -2,7 +2,7 @@ use Rattle.std.proofs.Common.{rules}
 use Rattle.trie_model.proofs.NodeLaws.{good_here}
 use Rattle.trie_map.specs.Shape.{node_shape}
 use Rattle.trie_model.proofs.TakeLaws.{taken_in, item_good_back, item_takes, keeps_none}
-use Rattle.trie_model.proofs.PutLaws.{here_none, test_off}
+use Rattle.trie_model.proofs.PutNodes.{here_none, test_off}
 use Rattle.trie_map.specs.declared.node.Node.TheViews.{the_lemmas}
 use Rattle.trie_map.proofs.node.shrink.take_here.Goals as goal
 

@@ -1,4 +1,4 @@
-use Rattle.trie_model.proofs.MaskLaws.{prefix_masked}
+use Rattle.trie_model.proofs.MaskNets.{prefix_masked}
 use Rattle.trie_map.proofs.prefixes.Tuple2U128U8PlainPrefix.from_number.Goals as goal
 
 pub returns-clause-net : goal.returns-clause-net

@@ -1,5 +1,5 @@
 use Rattle.std.proofs.Common.{rules}
-use Rattle.trie_model.proofs.MaskLaws.{covers_first}
+use Rattle.trie_model.proofs.MaskNets.{covers_first}
 use Rattle.trie_map.proofs.prefixes.Tuple2U32U8Prefix.contains.Goals as goal
 
 pub returns-then-self-other : goal.returns-then-self-other

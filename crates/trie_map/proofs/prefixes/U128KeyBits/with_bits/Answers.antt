@@ -1,6 +1,6 @@
 use Rattle.std.proofs.Common.{◌≡◌, ℕ, ◌+◌, ◌-◌, ◌*◌, ◌%◌, ◌^◌, ◌≤◌, ◌<◌, ◌∙◌, ap, subst, sym, arith}
 use Rattle.trie_model.specs.Nets.{masked}
-use Rattle.trie_model.proofs.TrieLaws.{low_code, key_fits}
+use Rattle.trie_model.proofs.PlaceMoves.{low_code, key_fits}
 use Rattle.trie_map.proofs.prefixes.U128KeyBits.with_bits.Goals as goal
 
 whole : (d l p c t : ℕ) → p < 2 ^ 128 → c < 2 ^ l → d + l ≤ 128 → t ≡ masked 128 p d → t + c * 2 ^ (128 - (d + l)) % 340282366920938463463374607431768211456 ≡ masked 128 p d + c * 2 ^ (128 - (d + l))

@@ -1,6 +1,6 @@
 use Rattle.std.proofs.Common.{◌≡◌, ℕ, ◌+◌, ◌-◌, ◌*◌, ◌%◌, ◌^◌, ◌≤◌, ◌<◌, ◌∙◌, ap, subst, sym, arith}
 use Rattle.trie_model.specs.Nets.{masked}
-use Rattle.trie_model.proofs.TrieLaws.{low_code, key_fits}
+use Rattle.trie_model.proofs.PlaceMoves.{low_code, key_fits}
 use Rattle.trie_map.proofs.prefixes.U32KeyBits.with_bits.Goals as goal
 
 whole : (d l p c t : ℕ) → p < 2 ^ 32 → c < 2 ^ l → d + l ≤ 32 → t ≡ masked 32 p d → t + c * 2 ^ (32 - (d + l)) % 4294967296 ≡ masked 32 p d + c * 2 ^ (32 - (d + l))

@@ -1,6 +1,6 @@
 use Rattle.std.proofs.Common.{◌≡◌, ℕ, ◌+◌, ◌-◌, ◌*◌, ◌%◌, ◌^◌, ◌≤◌, ◌<◌, ◌∙◌, ap, subst, sym, arith}
 use Rattle.trie_model.specs.Nets.{masked}
-use Rattle.trie_model.proofs.TrieLaws.{low_code, key_fits}
+use Rattle.trie_model.proofs.PlaceMoves.{low_code, key_fits}
 use Rattle.trie_map.proofs.prefixes.U64KeyBits.with_bits.Goals as goal
 
 whole : (d l p c t : ℕ) → p < 2 ^ 64 → c < 2 ^ l → d + l ≤ 64 → t ≡ masked 64 p d → t + c * 2 ^ (64 - (d + l)) % 18446744073709551616 ≡ masked 64 p d + c * 2 ^ (64 - (d + l))

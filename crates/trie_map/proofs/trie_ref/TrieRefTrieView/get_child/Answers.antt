@@ -1,7 +1,8 @@
 use Rattle.std.proofs.Common.{ℕ, ◌+◌, ◌*◌, ◌/◌, ap, arith}
 use Rattle.trie_model.specs.Nets.{Net}
 use Rattle.trie_model.proofs.RootLaws.{ref_child_at}
-use Rattle.trie_model.proofs.TrieLaws.{ref_node, ref_kid, ref_deep, ref_ok_child, ref_took_child}
+use Rattle.trie_model.proofs.TrieLaws.{ref_ok_child, ref_took_child}
+use Rattle.trie_model.proofs.PlaceMoves.{ref_node, ref_kid, ref_deep}
 use Rattle.trie_map.specs.Shape.{node_shape}
 use Rattle.trie_map.proofs.trie_ref.TrieRefTrieView.get_child.Goals as goal
 

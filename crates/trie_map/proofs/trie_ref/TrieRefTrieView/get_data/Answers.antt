@@ -1,4 +1,5 @@
-use Rattle.trie_model.proofs.TrieLaws.{ref_item, ref_node, ref_bit, ref_ok_data, ref_took_data}
+use Rattle.trie_model.proofs.TrieLaws.{ref_ok_data, ref_took_data}
+use Rattle.trie_model.proofs.PlaceMoves.{ref_item, ref_node, ref_bit}
 use Rattle.trie_map.specs.Shape.{node_shape}
 use Rattle.trie_map.proofs.trie_ref.TrieRefTrieView.get_data.Goals as goal
 

@@ -1,4 +1,4 @@
-use Rattle.trie_model.proofs.TrieLaws.{ref_moved, ref_moved_ok, data_narrowed, children_narrowed}
+use Rattle.trie_model.proofs.PlaceMoves.{ref_moved, ref_moved_ok, data_narrowed, children_narrowed}
 use Rattle.trie_map.specs.Shape.{node_shape}
 use Rattle.trie_map.proofs.trie_ref.TrieRefTrieView.reposition.Goals as goal
 

@@ -1,0 +1,3 @@
+pub mod EqualLaws
+pub mod FilterSteps
+pub mod EnterLaws

@@ -1,0 +1,3 @@
+pub mod Hex
+pub mod Writing
+pub mod Reading

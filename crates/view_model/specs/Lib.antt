@@ -1,0 +1,12 @@
+pub mod CoveringDifference
+pub mod CoveringUnion
+pub mod Difference
+pub mod Intersection
+pub mod LongestMatch
+pub mod Find
+pub mod Sides
+pub mod Union
+pub mod Items
+pub mod Pairs
+pub mod Laws
+pub mod Through
