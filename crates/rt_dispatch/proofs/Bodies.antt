@@ -15,11 +15,19 @@ use Rattle.rt_other.specs.Route as Route
 use Rattle.rt_other.specs.Rule as Rule
 use Rattle.rt_other.specs.Tc as Tc
 use Rattle.rt_other.specs.TcAction as TcAction
+use Rattle.rt_wire.specs.AddrLabel as AddrLabel
+use Rattle.rt_neighbour.specs.Neighbour as Neighbour
+use Rattle.rt_neighbour_table.specs.NeighbourTable as NeighbourTable
+use Rattle.rt_wire.specs.Nsid as Nsid
+use Rattle.rt_wire.specs.Prefix as Prefix
 use Rattle.rt_other.specs.LinkLaws as LinkLaws
 use Rattle.rt_other.specs.AddressLaws as AddressLaws
 use Rattle.rt_other.specs.RouteLaws as RouteLaws
 use Rattle.rt_other.proofs.MessageReadBack.{messages-again, read-parts}
 use Rattle.rt_other.proofs.Forms as Forms
+use Rattle.rt_neighbour.proofs.Forms as NeighbourForms
+use Rattle.rt_neighbour_table.proofs.Forms as NeighbourTableForms
+use Rattle.rt_wire.proofs.Forms as WireForms
 use Rattle.rt_dispatch.specs.Dispatch.{link_request, address_request, route_request}
 
 -- ---- written and read
@@ -47,6 +55,26 @@ tc-again m fit back = messages-again Forms.tc_form Forms.tc-laws m fit back.0 ba
 -- A message on actions of traffic control that reads back does so from its bytes.
 pub tc_action-again : TcAction.MessagesReadBack
 tc_action-again m fit back = messages-again Forms.tc_action_form Forms.tc_action-laws m fit back.0 back.1
+
+-- A message on address labels that reads back does so from its bytes.
+pub addr_label-again : AddrLabel.MessagesReadBack
+addr_label-again m fit back = messages-again WireForms.addrlabel_form WireForms.addrlabel-laws m fit back.0 back.1
+
+-- A message on neighbours that reads back does so from its bytes.
+pub neighbour-again : Neighbour.MessagesReadBack
+neighbour-again m fit back = messages-again NeighbourForms.neighbour_form NeighbourForms.neighbour-laws m fit back.0 back.1
+
+-- A message on neighbour tables that reads back does so from its bytes.
+pub neighbour_table-again : NeighbourTable.MessagesReadBack
+neighbour_table-again m fit back = messages-again NeighbourTableForms.neighbour_table_form NeighbourTableForms.neighbour_table-laws m fit back.0 back.1
+
+-- A message on network namespaces that reads back does so from its bytes.
+pub nsid-again : Nsid.MessagesReadBack
+nsid-again m fit back = messages-again WireForms.nsid_form WireForms.nsid-laws m fit back.0 back.1
+
+-- A message on prefixes that reads back does so from its bytes.
+pub prefix-again : Prefix.MessagesReadBack
+prefix-again m fit back = messages-again WireForms.prefix_form WireForms.prefix-laws m fit back.0 back.1
 
 longer : (n k : ℕ) → k < n → (n == k) ≡ false
 longer n k less = ne_eqb n k (λ same. omega (arith, same, less))
@@ -98,6 +126,26 @@ tc-read bytes m are is = read-parts Forms.tc_form Forms.tc-laws bytes m are is
 -- A message on actions of traffic control that was read from bytes reads back.
 pub tc_action-read : (bytes : List ℕ) (m : TcAction.TcActionMessage) → AreBytes bytes → TcAction.message_at bytes ≡ Ok m → TcAction.ReadsBack m
 tc_action-read bytes m are is = read-parts Forms.tc_action_form Forms.tc_action-laws bytes m are is
+
+-- A message on address labels that was read from bytes reads back.
+pub addr_label-read : (bytes : List ℕ) (m : AddrLabel.AddrLabelMessage) → AreBytes bytes → AddrLabel.message_at bytes ≡ Ok m → AddrLabel.ReadsBack m
+addr_label-read bytes m are is = read-parts WireForms.addrlabel_form WireForms.addrlabel-laws bytes m are is
+
+-- A message on neighbours that was read from bytes reads back.
+pub neighbour-read : (bytes : List ℕ) (m : Neighbour.NeighbourMessage) → AreBytes bytes → Neighbour.message_at bytes ≡ Ok m → Neighbour.ReadsBack m
+neighbour-read bytes m are is = read-parts NeighbourForms.neighbour_form NeighbourForms.neighbour-laws bytes m are is
+
+-- A message on neighbour tables that was read from bytes reads back.
+pub neighbour_table-read : (bytes : List ℕ) (m : NeighbourTable.NeighbourTableMessage) → AreBytes bytes → NeighbourTable.message_at bytes ≡ Ok m → NeighbourTable.ReadsBack m
+neighbour_table-read bytes m are is = read-parts NeighbourTableForms.neighbour_table_form NeighbourTableForms.neighbour_table-laws bytes m are is
+
+-- A message on network namespaces that was read from bytes reads back.
+pub nsid-read : (bytes : List ℕ) (m : Nsid.NsidMessage) → AreBytes bytes → Nsid.message_at bytes ≡ Ok m → Nsid.ReadsBack m
+nsid-read bytes m are is = read-parts WireForms.nsid_form WireForms.nsid-laws bytes m are is
+
+-- A message on prefixes that was read from bytes reads back.
+pub prefix-read : (bytes : List ℕ) (m : Prefix.PrefixMessage) → AreBytes bytes → Prefix.message_at bytes ≡ Ok m → Prefix.ReadsBack m
+prefix-read bytes m are is = read-parts WireForms.prefix_form WireForms.prefix-laws bytes m are is
 
 -- A short form or a whole message.
 either : {X : Type 0} (b : Bool) (short x : X) (whole : Result X DecodeError) (Back : X → Type 0) → Back short → (whole ≡ Ok x → Back x)

@@ -12,6 +12,11 @@ use Rattle.rt_other.specs.Route as Route
 use Rattle.rt_other.specs.Rule as Rule
 use Rattle.rt_other.specs.Tc as Tc
 use Rattle.rt_other.specs.TcAction as TcAction
+use Rattle.rt_wire.specs.AddrLabel as AddrLabel
+use Rattle.rt_neighbour.specs.Neighbour as Neighbour
+use Rattle.rt_neighbour_table.specs.NeighbourTable as NeighbourTable
+use Rattle.rt_wire.specs.Nsid as Nsid
+use Rattle.rt_wire.specs.Prefix as Prefix
 use Rattle.rt_dispatch.specs.declared.message.RouteNetlinkMessage.{RouteNetlinkMessage}
 use Rattle.rt_dispatch.specs.declared.message.RouteNetlinkMessage.TheVariants as variant
 use Rattle.rt_dispatch.specs.Dispatch.{body, text, kind, fits, reads, link_request, address_request, route_request, ReadsBack, MessagesReadBack, ReadMessagesReadBack}
@@ -38,6 +43,9 @@ again (variant.GetAddress m) fit back = wrapped (λ x. variant.GetAddress x) _ m
 again (variant.NewRoute m) fit back = wrapped (λ x. variant.NewRoute x) _ m (Bodies.route-again m fit back)
 again (variant.DelRoute m) fit back = wrapped (λ x. variant.DelRoute x) _ m (Bodies.route-again m fit back)
 again (variant.GetRoute m) fit back = wrapped (λ x. variant.GetRoute x) _ m (Bodies.route-request-again m (Bodies.route-again m fit back))
+again (variant.NewNeighbour m) fit back = wrapped (λ x. variant.NewNeighbour x) _ m (Bodies.neighbour-again m fit back)
+again (variant.DelNeighbour m) fit back = wrapped (λ x. variant.DelNeighbour x) _ m (Bodies.neighbour-again m fit back)
+again (variant.GetNeighbour m) fit back = wrapped (λ x. variant.GetNeighbour x) _ m (Bodies.neighbour-again m fit back)
 again (variant.NewRule m) fit back = wrapped (λ x. variant.NewRule x) _ m (Bodies.rule-again m fit back)
 again (variant.DelRule m) fit back = wrapped (λ x. variant.DelRule x) _ m (Bodies.rule-again m fit back)
 again (variant.GetRule m) fit back = wrapped (λ x. variant.GetRule x) _ m (Bodies.rule-again m fit back)
@@ -53,6 +61,16 @@ again (variant.GetTrafficFilter m) fit back = wrapped (λ x. variant.GetTrafficF
 again (variant.NewTrafficAction m) fit back = wrapped (λ x. variant.NewTrafficAction x) _ m (Bodies.tc_action-again m fit back)
 again (variant.DelTrafficAction m) fit back = wrapped (λ x. variant.DelTrafficAction x) _ m (Bodies.tc_action-again m fit back)
 again (variant.GetTrafficAction m) fit back = wrapped (λ x. variant.GetTrafficAction x) _ m (Bodies.tc_action-again m fit back)
+again (variant.NewPrefix m) fit back = wrapped (λ x. variant.NewPrefix x) _ m (Bodies.prefix-again m fit back)
+again (variant.NewNeighbourTable m) fit back = wrapped (λ x. variant.NewNeighbourTable x) _ m (Bodies.neighbour_table-again m fit back)
+again (variant.GetNeighbourTable m) fit back = wrapped (λ x. variant.GetNeighbourTable x) _ m (Bodies.neighbour_table-again m fit back)
+again (variant.SetNeighbourTable m) fit back = wrapped (λ x. variant.SetNeighbourTable x) _ m (Bodies.neighbour_table-again m fit back)
+again (variant.NewAddrLabel m) fit back = wrapped (λ x. variant.NewAddrLabel x) _ m (Bodies.addr_label-again m fit back)
+again (variant.DelAddrLabel m) fit back = wrapped (λ x. variant.DelAddrLabel x) _ m (Bodies.addr_label-again m fit back)
+again (variant.GetAddrLabel m) fit back = wrapped (λ x. variant.GetAddrLabel x) _ m (Bodies.addr_label-again m fit back)
+again (variant.NewNsId m) fit back = wrapped (λ x. variant.NewNsId x) _ m (Bodies.nsid-again m fit back)
+again (variant.DelNsId m) fit back = wrapped (λ x. variant.DelNsId x) _ m (Bodies.nsid-again m fit back)
+again (variant.GetNsId m) fit back = wrapped (λ x. variant.GetNsId x) _ m (Bodies.nsid-again m fit back)
 again (variant.NewTrafficChain m) fit back = wrapped (λ x. variant.NewTrafficChain x) _ m (Bodies.tc-again m fit back)
 again (variant.DelTrafficChain m) fit back = wrapped (λ x. variant.DelTrafficChain x) _ m (Bodies.tc-again m fit back)
 again (variant.GetTrafficChain m) fit back = wrapped (λ x. variant.GetTrafficChain x) _ m (Bodies.tc-again m fit back)
@@ -94,6 +112,11 @@ read-parts k bytes m are =
     let rule = λ (x : Rule.RuleMessage). Bodies.rule-read bytes x are in
     let tc = λ (x : Tc.TcMessage). Bodies.tc-read bytes x are in
     let tc_action = λ (x : TcAction.TcActionMessage). Bodies.tc_action-read bytes x are in
+    let addr_label = λ (x : AddrLabel.AddrLabelMessage). Bodies.addr_label-read bytes x are in
+    let neighbour = λ (x : Neighbour.NeighbourMessage). Bodies.neighbour-read bytes x are in
+    let neighbour_table = λ (x : NeighbourTable.NeighbourTableMessage). Bodies.neighbour_table-read bytes x are in
+    let nsid = λ (x : Nsid.NsidMessage). Bodies.nsid-read bytes x are in
+    let prefix = λ (x : Prefix.PrefixMessage). Bodies.prefix-read bytes x are in
     step k m (Link.message_at bytes) (λ x. variant.NewLink x) 16 _ (λ x is. (refl, link x is))
     (step k m (Link.message_at bytes) (λ x. variant.DelLink x) 17 _ (λ x is. (refl, link x is))
     (step k m (link_request bytes) (λ x. variant.GetLink x) 18 _ (λ x is. (refl, Bodies.link-request-read bytes x are is))
@@ -104,6 +127,9 @@ read-parts k bytes m are =
     (step k m (Route.message_at bytes) (λ x. variant.NewRoute x) 24 _ (λ x is. (refl, route x is))
     (step k m (Route.message_at bytes) (λ x. variant.DelRoute x) 25 _ (λ x is. (refl, route x is))
     (step k m (route_request bytes) (λ x. variant.GetRoute x) 26 _ (λ x is. (refl, Bodies.route-request-read bytes x are is))
+    (step k m (Neighbour.message_at bytes) (λ x. variant.NewNeighbour x) 28 _ (λ x is. (refl, neighbour x is))
+    (step k m (Neighbour.message_at bytes) (λ x. variant.DelNeighbour x) 29 _ (λ x is. (refl, neighbour x is))
+    (step k m (Neighbour.message_at bytes) (λ x. variant.GetNeighbour x) 30 _ (λ x is. (refl, neighbour x is))
     (step k m (Rule.message_at bytes) (λ x. variant.NewRule x) 32 _ (λ x is. (refl, rule x is))
     (step k m (Rule.message_at bytes) (λ x. variant.DelRule x) 33 _ (λ x is. (refl, rule x is))
     (step k m (Rule.message_at bytes) (λ x. variant.GetRule x) 34 _ (λ x is. (refl, rule x is))
@@ -119,10 +145,20 @@ read-parts k bytes m are =
     (step k m (TcAction.message_at bytes) (λ x. variant.NewTrafficAction x) 48 _ (λ x is. (refl, tc_action x is))
     (step k m (TcAction.message_at bytes) (λ x. variant.DelTrafficAction x) 49 _ (λ x is. (refl, tc_action x is))
     (step k m (TcAction.message_at bytes) (λ x. variant.GetTrafficAction x) 50 _ (λ x is. (refl, tc_action x is))
+    (step k m (Prefix.message_at bytes) (λ x. variant.NewPrefix x) 52 _ (λ x is. (refl, prefix x is))
+    (step k m (NeighbourTable.message_at bytes) (λ x. variant.NewNeighbourTable x) 64 _ (λ x is. (refl, neighbour_table x is))
+    (step k m (NeighbourTable.message_at bytes) (λ x. variant.GetNeighbourTable x) 66 _ (λ x is. (refl, neighbour_table x is))
+    (step k m (NeighbourTable.message_at bytes) (λ x. variant.SetNeighbourTable x) 67 _ (λ x is. (refl, neighbour_table x is))
+    (step k m (AddrLabel.message_at bytes) (λ x. variant.NewAddrLabel x) 72 _ (λ x is. (refl, addr_label x is))
+    (step k m (AddrLabel.message_at bytes) (λ x. variant.DelAddrLabel x) 73 _ (λ x is. (refl, addr_label x is))
+    (step k m (AddrLabel.message_at bytes) (λ x. variant.GetAddrLabel x) 74 _ (λ x is. (refl, addr_label x is))
+    (step k m (Nsid.message_at bytes) (λ x. variant.NewNsId x) 88 _ (λ x is. (refl, nsid x is))
+    (step k m (Nsid.message_at bytes) (λ x. variant.DelNsId x) 89 _ (λ x is. (refl, nsid x is))
+    (step k m (Nsid.message_at bytes) (λ x. variant.GetNsId x) 90 _ (λ x is. (refl, nsid x is))
     (step k m (Tc.message_at bytes) (λ x. variant.NewTrafficChain x) 100 _ (λ x is. (refl, tc x is))
     (step k m (Tc.message_at bytes) (λ x. variant.DelTrafficChain x) 101 _ (λ x is. (refl, tc x is))
     (step k m (Tc.message_at bytes) (λ x. variant.GetTrafficChain x) 102 _ (λ x is. (refl, tc x is))
-    (none _))))))))))))))))))))))))))))
+    (none _)))))))))))))))))))))))))))))))))))))))))
 
 -- Each message that was read from bytes reads back.
 pub read-again : ReadMessagesReadBack

@@ -13,6 +13,11 @@ use Rattle.rt_other.specs.Route as Route
 use Rattle.rt_other.specs.Rule as Rule
 use Rattle.rt_other.specs.Tc as Tc
 use Rattle.rt_other.specs.TcAction as TcAction
+use Rattle.rt_wire.specs.AddrLabel as AddrLabel
+use Rattle.rt_neighbour.specs.Neighbour as Neighbour
+use Rattle.rt_neighbour_table.specs.NeighbourTable as NeighbourTable
+use Rattle.rt_wire.specs.Nsid as Nsid
+use Rattle.rt_wire.specs.Prefix as Prefix
 use Rattle.rt_dispatch.specs.declared.message.RouteNetlinkMessage.{RouteNetlinkMessage}
 use Rattle.rt_dispatch.specs.declared.message.RouteNetlinkMessage.TheVariants as variant
 
@@ -32,6 +37,9 @@ kind (variant.GetAddress m) = 22
 kind (variant.NewRoute m) = 24
 kind (variant.DelRoute m) = 25
 kind (variant.GetRoute m) = 26
+kind (variant.NewNeighbour m) = 28
+kind (variant.DelNeighbour m) = 29
+kind (variant.GetNeighbour m) = 30
 kind (variant.NewRule m) = 32
 kind (variant.DelRule m) = 33
 kind (variant.GetRule m) = 34
@@ -47,6 +55,16 @@ kind (variant.GetTrafficFilter m) = 46
 kind (variant.NewTrafficAction m) = 48
 kind (variant.DelTrafficAction m) = 49
 kind (variant.GetTrafficAction m) = 50
+kind (variant.NewPrefix m) = 52
+kind (variant.NewNeighbourTable m) = 64
+kind (variant.GetNeighbourTable m) = 66
+kind (variant.SetNeighbourTable m) = 67
+kind (variant.NewAddrLabel m) = 72
+kind (variant.DelAddrLabel m) = 73
+kind (variant.GetAddrLabel m) = 74
+kind (variant.NewNsId m) = 88
+kind (variant.DelNsId m) = 89
+kind (variant.GetNsId m) = 90
 kind (variant.NewTrafficChain m) = 100
 kind (variant.DelTrafficChain m) = 101
 kind (variant.GetTrafficChain m) = 102
@@ -61,6 +79,11 @@ pub data Body : Type 0 where
   OfRule : Rule.RuleMessage → Body
   OfTc : Tc.TcMessage → Body
   OfTcAction : TcAction.TcActionMessage → Body
+  OfAddrLabel : AddrLabel.AddrLabelMessage → Body
+  OfNeighbour : Neighbour.NeighbourMessage → Body
+  OfNeighbourTable : NeighbourTable.NeighbourTableMessage → Body
+  OfNsid : Nsid.NsidMessage → Body
+  OfPrefix : Prefix.PrefixMessage → Body
 
 -- What a variant holds.
 unfoldable pub body : RouteNetlinkMessage → Body
@@ -76,6 +99,9 @@ body (variant.GetAddress m) = OfAddress m
 body (variant.NewRoute m) = OfRoute m
 body (variant.DelRoute m) = OfRoute m
 body (variant.GetRoute m) = OfRoute m
+body (variant.NewNeighbour m) = OfNeighbour m
+body (variant.DelNeighbour m) = OfNeighbour m
+body (variant.GetNeighbour m) = OfNeighbour m
 body (variant.NewRule m) = OfRule m
 body (variant.DelRule m) = OfRule m
 body (variant.GetRule m) = OfRule m
@@ -91,6 +117,16 @@ body (variant.GetTrafficFilter m) = OfTc m
 body (variant.NewTrafficAction m) = OfTcAction m
 body (variant.DelTrafficAction m) = OfTcAction m
 body (variant.GetTrafficAction m) = OfTcAction m
+body (variant.NewPrefix m) = OfPrefix m
+body (variant.NewNeighbourTable m) = OfNeighbourTable m
+body (variant.GetNeighbourTable m) = OfNeighbourTable m
+body (variant.SetNeighbourTable m) = OfNeighbourTable m
+body (variant.NewAddrLabel m) = OfAddrLabel m
+body (variant.DelAddrLabel m) = OfAddrLabel m
+body (variant.GetAddrLabel m) = OfAddrLabel m
+body (variant.NewNsId m) = OfNsid m
+body (variant.DelNsId m) = OfNsid m
+body (variant.GetNsId m) = OfNsid m
 body (variant.NewTrafficChain m) = OfTc m
 body (variant.DelTrafficChain m) = OfTc m
 body (variant.GetTrafficChain m) = OfTc m
@@ -103,6 +139,11 @@ body_text (OfRoute m) = Route.text m
 body_text (OfRule m) = Rule.text m
 body_text (OfTc m) = Tc.text m
 body_text (OfTcAction m) = TcAction.text m
+body_text (OfAddrLabel m) = AddrLabel.text m
+body_text (OfNeighbour m) = Neighbour.text m
+body_text (OfNeighbourTable m) = NeighbourTable.text m
+body_text (OfNsid m) = Nsid.text m
+body_text (OfPrefix m) = Prefix.text m
 
 -- Whether each attribute of what a variant holds fits, and it a frame.
 abbrev pub body_fits : Body → Bool
@@ -112,6 +153,11 @@ body_fits (OfRoute m) = Route.fits m
 body_fits (OfRule m) = Rule.fits m
 body_fits (OfTc m) = Tc.fits m
 body_fits (OfTcAction m) = TcAction.fits m
+body_fits (OfAddrLabel m) = AddrLabel.fits m
+body_fits (OfNeighbour m) = Neighbour.fits m
+body_fits (OfNeighbourTable m) = NeighbourTable.fits m
+body_fits (OfNsid m) = Nsid.fits m
+body_fits (OfPrefix m) = Prefix.fits m
 
 -- What a variant holds reads back: the numbers of its header fit their fields, its family and its attributes read back.
 abbrev pub BodyReadsBack : Body → Type 0
@@ -121,6 +167,11 @@ BodyReadsBack (OfRoute m) = Route.ReadsBack m
 BodyReadsBack (OfRule m) = Rule.ReadsBack m
 BodyReadsBack (OfTc m) = Tc.ReadsBack m
 BodyReadsBack (OfTcAction m) = TcAction.ReadsBack m
+BodyReadsBack (OfAddrLabel m) = AddrLabel.ReadsBack m
+BodyReadsBack (OfNeighbour m) = Neighbour.ReadsBack m
+BodyReadsBack (OfNeighbourTable m) = NeighbourTable.ReadsBack m
+BodyReadsBack (OfNsid m) = Nsid.ReadsBack m
+BodyReadsBack (OfPrefix m) = Prefix.ReadsBack m
 
 -- The bytes of a message.
 unfoldable pub text : RouteNetlinkMessage → List ℕ
@@ -166,6 +217,9 @@ reads kind bytes =
     else if kind == 24 then (Route.message_at bytes >>= λ m. Ok (variant.NewRoute m))
     else if kind == 25 then (Route.message_at bytes >>= λ m. Ok (variant.DelRoute m))
     else if kind == 26 then (route_request bytes >>= λ m. Ok (variant.GetRoute m))
+    else if kind == 28 then (Neighbour.message_at bytes >>= λ m. Ok (variant.NewNeighbour m))
+    else if kind == 29 then (Neighbour.message_at bytes >>= λ m. Ok (variant.DelNeighbour m))
+    else if kind == 30 then (Neighbour.message_at bytes >>= λ m. Ok (variant.GetNeighbour m))
     else if kind == 32 then (Rule.message_at bytes >>= λ m. Ok (variant.NewRule m))
     else if kind == 33 then (Rule.message_at bytes >>= λ m. Ok (variant.DelRule m))
     else if kind == 34 then (Rule.message_at bytes >>= λ m. Ok (variant.GetRule m))
@@ -181,6 +235,16 @@ reads kind bytes =
     else if kind == 48 then (TcAction.message_at bytes >>= λ m. Ok (variant.NewTrafficAction m))
     else if kind == 49 then (TcAction.message_at bytes >>= λ m. Ok (variant.DelTrafficAction m))
     else if kind == 50 then (TcAction.message_at bytes >>= λ m. Ok (variant.GetTrafficAction m))
+    else if kind == 52 then (Prefix.message_at bytes >>= λ m. Ok (variant.NewPrefix m))
+    else if kind == 64 then (NeighbourTable.message_at bytes >>= λ m. Ok (variant.NewNeighbourTable m))
+    else if kind == 66 then (NeighbourTable.message_at bytes >>= λ m. Ok (variant.GetNeighbourTable m))
+    else if kind == 67 then (NeighbourTable.message_at bytes >>= λ m. Ok (variant.SetNeighbourTable m))
+    else if kind == 72 then (AddrLabel.message_at bytes >>= λ m. Ok (variant.NewAddrLabel m))
+    else if kind == 73 then (AddrLabel.message_at bytes >>= λ m. Ok (variant.DelAddrLabel m))
+    else if kind == 74 then (AddrLabel.message_at bytes >>= λ m. Ok (variant.GetAddrLabel m))
+    else if kind == 88 then (Nsid.message_at bytes >>= λ m. Ok (variant.NewNsId m))
+    else if kind == 89 then (Nsid.message_at bytes >>= λ m. Ok (variant.DelNsId m))
+    else if kind == 90 then (Nsid.message_at bytes >>= λ m. Ok (variant.GetNsId m))
     else if kind == 100 then (Tc.message_at bytes >>= λ m. Ok (variant.NewTrafficChain m))
     else if kind == 101 then (Tc.message_at bytes >>= λ m. Ok (variant.DelTrafficChain m))
     else if kind == 102 then (Tc.message_at bytes >>= λ m. Ok (variant.GetTrafficChain m))
@@ -239,6 +303,9 @@ HasVariantOf k m =
     (choose (k == 24) (IsOf (λ x. variant.NewRoute x) m)
     (choose (k == 25) (IsOf (λ x. variant.DelRoute x) m)
     (choose (k == 26) (IsOf (λ x. variant.GetRoute x) m)
+    (choose (k == 28) (IsOf (λ x. variant.NewNeighbour x) m)
+    (choose (k == 29) (IsOf (λ x. variant.DelNeighbour x) m)
+    (choose (k == 30) (IsOf (λ x. variant.GetNeighbour x) m)
     (choose (k == 32) (IsOf (λ x. variant.NewRule x) m)
     (choose (k == 33) (IsOf (λ x. variant.DelRule x) m)
     (choose (k == 34) (IsOf (λ x. variant.GetRule x) m)
@@ -254,10 +321,20 @@ HasVariantOf k m =
     (choose (k == 48) (IsOf (λ x. variant.NewTrafficAction x) m)
     (choose (k == 49) (IsOf (λ x. variant.DelTrafficAction x) m)
     (choose (k == 50) (IsOf (λ x. variant.GetTrafficAction x) m)
+    (choose (k == 52) (IsOf (λ x. variant.NewPrefix x) m)
+    (choose (k == 64) (IsOf (λ x. variant.NewNeighbourTable x) m)
+    (choose (k == 66) (IsOf (λ x. variant.GetNeighbourTable x) m)
+    (choose (k == 67) (IsOf (λ x. variant.SetNeighbourTable x) m)
+    (choose (k == 72) (IsOf (λ x. variant.NewAddrLabel x) m)
+    (choose (k == 73) (IsOf (λ x. variant.DelAddrLabel x) m)
+    (choose (k == 74) (IsOf (λ x. variant.GetAddrLabel x) m)
+    (choose (k == 88) (IsOf (λ x. variant.NewNsId x) m)
+    (choose (k == 89) (IsOf (λ x. variant.DelNsId x) m)
+    (choose (k == 90) (IsOf (λ x. variant.GetNsId x) m)
     (choose (k == 100) (IsOf (λ x. variant.NewTrafficChain x) m)
     (choose (k == 101) (IsOf (λ x. variant.DelTrafficChain x) m)
     (choose (k == 102) (IsOf (λ x. variant.GetTrafficChain x) m)
-    ⊥)))))))))))))))))))))))))))))
+    ⊥))))))))))))))))))))))))))))))))))))))))))
 
 -- The type of each message tells its variant.
 abbrev pub TypesTellVariants : Type 0

@@ -76,6 +76,27 @@ impl RouteNetlinkMessage {
         self.message_type() == RTM_GETROUTE
     }
 
+    /// Whether this is a `NewNeighbour`.
+    pub fn is_new_neighbour(&self) -> bool
+        ensures { result ≡ (kind self.now == 28) }
+    {
+        self.message_type() == RTM_NEWNEIGH
+    }
+
+    /// Whether this is a `DelNeighbour`.
+    pub fn is_del_neighbour(&self) -> bool
+        ensures { result ≡ (kind self.now == 29) }
+    {
+        self.message_type() == RTM_DELNEIGH
+    }
+
+    /// Whether this is a `GetNeighbour`.
+    pub fn is_get_neighbour(&self) -> bool
+        ensures { result ≡ (kind self.now == 30) }
+    {
+        self.message_type() == RTM_GETNEIGH
+    }
+
     /// Whether this is a `NewRule`.
     pub fn is_new_rule(&self) -> bool
         ensures { result ≡ (kind self.now == 32) }
@@ -179,6 +200,69 @@ impl RouteNetlinkMessage {
         ensures { result ≡ (kind self.now == 50) }
     {
         self.message_type() == RTM_GETACTION
+    }
+
+    /// Whether this is a `NewNeighbourTable`.
+    pub fn is_new_neighbour_table(&self) -> bool
+        ensures { result ≡ (kind self.now == 64) }
+    {
+        self.message_type() == RTM_NEWNEIGHTBL
+    }
+
+    /// Whether this is a `GetNeighbourTable`.
+    pub fn is_get_neighbour_table(&self) -> bool
+        ensures { result ≡ (kind self.now == 66) }
+    {
+        self.message_type() == RTM_GETNEIGHTBL
+    }
+
+    /// Whether this is a `SetNeighbourTable`.
+    pub fn is_set_neighbour_table(&self) -> bool
+        ensures { result ≡ (kind self.now == 67) }
+    {
+        self.message_type() == RTM_SETNEIGHTBL
+    }
+
+    /// Whether this is a `NewAddrLabel`.
+    pub fn is_new_addr_label(&self) -> bool
+        ensures { result ≡ (kind self.now == 72) }
+    {
+        self.message_type() == RTM_NEWADDRLABEL
+    }
+
+    /// Whether this is a `DelAddrLabel`.
+    pub fn is_del_addr_label(&self) -> bool
+        ensures { result ≡ (kind self.now == 73) }
+    {
+        self.message_type() == RTM_DELADDRLABEL
+    }
+
+    /// Whether this is a `GetAddrLabel`.
+    pub fn is_get_addr_label(&self) -> bool
+        ensures { result ≡ (kind self.now == 74) }
+    {
+        self.message_type() == RTM_GETADDRLABEL
+    }
+
+    /// Whether this is a `NewNsId`.
+    pub fn is_new_nsid(&self) -> bool
+        ensures { result ≡ (kind self.now == 88) }
+    {
+        self.message_type() == RTM_NEWNSID
+    }
+
+    /// Whether this is a `DelNsId`.
+    pub fn is_del_nsid(&self) -> bool
+        ensures { result ≡ (kind self.now == 89) }
+    {
+        self.message_type() == RTM_DELNSID
+    }
+
+    /// Whether this is a `GetNsId`.
+    pub fn is_get_nsid(&self) -> bool
+        ensures { result ≡ (kind self.now == 90) }
+    {
+        self.message_type() == RTM_GETNSID
     }
 
     /// Whether this is a `NewTrafficChain`.

@@ -1,0 +1,4 @@
+pub mod Value
+pub mod Rows
+pub mod RowLaws
+pub mod FixedLaws

@@ -1,0 +1,11 @@
+pub mod Flags
+pub mod State
+pub mod StateLaws
+pub mod CacheInfo
+pub mod CacheInfoLaws
+pub mod NeighbourAddress
+pub mod NeighbourAddressLaws
+pub mod NeighbourAttribute
+pub mod NeighbourAttributeLaws
+pub mod Neighbour
+pub mod NeighbourLaws

@@ -1,0 +1,10 @@
+pub mod Config
+pub mod ConfigLaws
+pub mod Stats
+pub mod StatsLaws
+pub mod Parameter
+pub mod ParameterLaws
+pub mod NeighbourTableAttribute
+pub mod NeighbourTableAttributeLaws
+pub mod NeighbourTable
+pub mod NeighbourTableLaws

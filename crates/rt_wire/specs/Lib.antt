@@ -1,0 +1,14 @@
+pub mod AddrLabelAttribute
+pub mod AddrLabelAttributeLaws
+pub mod AddrLabel
+pub mod AddrLabelLaws
+pub mod NsidAttribute
+pub mod NsidAttributeLaws
+pub mod Nsid
+pub mod NsidLaws
+pub mod CacheInfo
+pub mod CacheInfoLaws
+pub mod PrefixAttribute
+pub mod PrefixAttributeLaws
+pub mod Prefix
+pub mod PrefixLaws
