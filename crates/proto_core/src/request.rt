@@ -76,7 +76,8 @@ impl From<AllocError> for RequestRefusal {
 fn find_unfit<T: NetlinkSerializable>(messages: &[NetlinkMessage<T>]) -> Option<usize>
     ensures earlier { IfSome result (λ i. list_all (message_fits T.text T.fitting) (take i messages.now) ≡ true) }
     ensures within { IfSome result (λ i. i < length messages.now) }
-    ensures unfit { IfSome result (λ i. (d : _) → message_fits T.text T.fitting (slice_index_or messages.now i d) ≡ false) }
+    ensures unfit { IfSome result
+        (λ i. (d : _) → message_fits T.text T.fitting (slice_index_or messages.now i d) ≡ false) }
     ensures none { IfNone result (list_all (message_fits T.text T.fitting) messages.now ≡ true) }
 {
     for (i, message) in messages.iter().enumerate() {

@@ -1,0 +1,29 @@
+-- A request more in the queue.
+use Rattle.std.proofs.Common.{◌≡◌, ◌+◌, ◌<◌, ◌^◌, ℕ, List, [], ◌∷◌, ◌++◌, length, ap, sym, subst, ◌∙◌, arith, length-append}
+use Rattle.proto_core.specs.Session.{Session}
+use Rattle.proto_core.specs.declared.request.Request.{Request}
+use Rattle.proto_conn.specs.declared.parts.Held.{Held}
+use Rattle.proto_conn.specs.Conn.{IsSound, messages_in}
+use Rattle.proto_conn.specs.Tallies.{AreNewest, IsTallied, Tallied, no_tally}
+use Rattle.proto_conn.proofs.Counts.{tallied_more}
+use Rattle.proto_conn.proofs.Numbering.{newest_more}
+
+messages_in-push : {T : Type 0} (q : List (Request T ℕ)) (r : Request T ℕ) → messages_in (q ++ r ∷ []) ≡ messages_in q + length r.messages
+messages_in-push [] r = omega arith
+messages_in-push (p ∷ q) r = let h = messages_in-push q r in omega (arith, h)
+
+pub sound_queued : {T : Type 0} (s : Session T ℕ) (q now : List (Request T ℕ)) (r : Request T ℕ) (count n a b c d : ℕ) (h : Held)
+    (reader : List ℕ) (given given2 : ℕ) (t t2 : Tallied)
+    → given2 ≡ given + 1 → t2 ≡ record t { streams = t.streams ++ no_tally ∷ [] } → r.metadata ≡ given2 → now ≡ q ++ r ∷ [] → n ≡ length r.messages
+    → (s.last + count) + length r.messages < 2 ^ 32 → IsSound s q count a b c d h reader given t → IsSound s now (count + n) a b c d h reader given2 t2
+sound_queued s q now r count n a b c d h reader given given2 t t2 one more next is len room i = record {
+  counted = let p = messages_in-push q r in let k = ap messages_in is in omega (arith, i.counted, len, p, k);
+  numbers = omega (arith, room, len);
+  replies = i.replies;
+  unsolicited = i.unsolicited;
+  held = i.held;
+  streams = let e : length t2.streams ≡ length (t.streams ++ no_tally ∷ []) = ap (λ (x : Tallied). length x.streams) more in
+      let l = length-append t.streams (no_tally ∷ []) in let k = i.streams in omega (arith, e, l, k, one);
+  newest = subst (λ n. AreNewest n now) (sym one) (subst (λ q. AreNewest (given + 1) q) (sym is) (newest_more given q r (next ∙ one) i.newest));
+  tallied = subst (λ (x : Tallied). IsTallied s.awaited s.responses s.arrived x) (sym more) (tallied_more s.awaited s.responses s.arrived t i.tallied);
+}

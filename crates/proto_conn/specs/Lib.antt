@@ -1,0 +1,17 @@
+pub mod Conn
+pub mod Flushing
+pub mod Fresh
+pub mod Handles
+pub mod Handling
+pub mod Links
+pub mod Next
+pub mod Polls
+pub mod Reading
+pub mod Seen
+pub mod Sending
+pub mod Settling
+pub mod Streaming
+pub mod Submitting
+pub mod Tapes
+pub mod Watches
+pub mod Tallies
