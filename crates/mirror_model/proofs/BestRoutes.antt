@@ -8,9 +8,10 @@ use Rattle.std.specs.declared.cmp.Ordering.{Ordering}
 use Rattle.std.specs.declared.cmp.Ordering.TheVariants.{Less, Equal, Greater}
 use Rattle.std.proofs.lemmas.Cmp.{nat_cmp_total, on_total, then_total}
 use Rattle.std.proofs.lemmas.Bool.Decides.{nat_tests}
-use Rattle.mirror_model.specs.declared.network.Network.{Network}
-use Rattle.mirror_model.specs.declared.network.Network.TheVariants as network
-use Rattle.mirror_model.specs.Routes.{RouteKey, NextHop, width_of, number_of, length_of, key_cmp, is_better, better, best_of, IsBest}
+use Rattle.session_model.specs.declared.network.Network.{Network}
+use Rattle.session_model.specs.declared.network.Network.TheVariants as network
+use Rattle.mirror_model.specs.Routes.{RouteKey, NextHop, width_of, number_of, key_cmp, is_better, better, best_of, IsBest}
+use Rattle.session_model.specs.Networks.{length_of}
 use Rattle.mirror_model.proofs.Lists.{all_same}
 
 -- Keys are totally ordered.

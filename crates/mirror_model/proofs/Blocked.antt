@@ -2,7 +2,7 @@
 use Rattle.std.proofs.Common.{◌≡◌, true, not, List, [], ◌∷◌, ◌++◌, sym, ◌∙◌, ap, append_assoc}
 use Rattle.std.specs.List.{filter, list_any}
 use Rattle.session_model.specs.Events.{Event}
-use Rattle.mirror_model.specs.declared.network.Network.{Network}
+use Rattle.session_model.specs.declared.network.Network.{Network}
 use Rattle.mirror_model.specs.Blocked.{newly_blocked, unblocks, blocked_at}
 use Rattle.session_model.proofs.Places.{append-nil, filter-all, filter-append, filter-filter, filter-same, not-or}
 use Rattle.mirror_model.proofs.Tests.{any_more}

@@ -3,9 +3,10 @@ use Rattle.std.proofs.Common.{◌≡◌, ◌&&◌, ◌||◌, Bool, true, false, 
 use Rattle.std.specs.List.{list_any}
 use Rattle.std.specs.FinMap.{entries}
 use Rattle.session_model.proofs.Places.{filter-same}
-use Rattle.mirror_model.specs.declared.network.Address.{Address}
-use Rattle.mirror_model.specs.declared.network.Network.{Network}
-use Rattle.mirror_model.specs.Routes.{RouteKey, NextHop, RouteTable, LinkTable, width_of, number_of, length_of, contains, contains_network, leaves_by_down, may_answer, best_of, answer_of, lookup}
+use Rattle.session_model.specs.declared.network.Address.{Address}
+use Rattle.session_model.specs.declared.network.Network.{Network}
+use Rattle.mirror_model.specs.Routes.{RouteKey, NextHop, RouteTable, LinkTable, width_of, number_of, contains, contains_network, leaves_by_down, may_answer, best_of, answer_of, lookup}
+use Rattle.session_model.specs.Networks.{length_of}
 use Rattle.mirror_model.specs.Blocked.{is_same}
 use Rattle.mirror_model.proofs.Tests.{and_left, and_right, same_number, number_same, and_both, or_true_second}
 use Rattle.mirror_model.proofs.BestRoutes.{same_network}

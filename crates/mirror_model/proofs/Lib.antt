@@ -17,4 +17,5 @@ pub mod BestRoutes
 pub mod Blocked
 pub mod Lookups
 pub mod Records
+pub mod OutputGrowth
 pub mod BlockedSets

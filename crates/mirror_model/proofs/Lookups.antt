@@ -6,7 +6,7 @@ use Rattle.std.specs.Ordering.{nat_cmp}
 use Rattle.std.proofs.lemmas.Cmp.{nat_cmp_total}
 use Rattle.session_model.specs.Events.{Event}
 use Rattle.session_model.specs.Streams.{is_shut}
-use Rattle.mirror_model.specs.declared.network.Address.{Address}
+use Rattle.session_model.specs.declared.network.Address.{Address}
 use Rattle.mirror_model.specs.declared.answer.Answer.TheVariants.{Stale}
 use Rattle.mirror_model.specs.Clean.{table_at}
 use Rattle.mirror_model.specs.FiniteTables.{finite}

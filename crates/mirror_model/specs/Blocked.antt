@@ -1,34 +1,26 @@
 -- The networks that are blocked at a place: those that a record before it blocked, and no later one unblocked.
-use Rattle.std.specs.Prelude.{◌==◌, ◌&&◌, ◌++◌, ℕ, Bool, false, not, if◌then◌else◌, List, [], ◌∷◌}
+use Rattle.std.specs.Prelude.{◌==◌, ◌&&◌, ◌++◌, Bool, false, not, List, [], ◌∷◌}
 use Rattle.std.specs.List.{filter, list_any}
-use Rattle.std.specs.Slice.Scan.{big_endian}
 use Rattle.session_model.specs.Events.{Event, Sent, Came, Unread, Leftover, Overran, Shut, Other, Aside, Blocked, Unblocked, LookedUp}
-use Rattle.mirror_model.specs.declared.network.Network.{Network}
-use Rattle.mirror_model.specs.declared.network.Network.TheVariants as network
-use Rattle.mirror_model.specs.Routes.{width_of, number_of, length_of, without_host_bits}
-
--- The network of an address family, octets and a length, without host bits: of AF_INET (2) or AF_INET6 (10), no other.
-abbrev pub network_of : ℕ → List ℕ → ℕ → List Network
-network_of family octets length =
-    if family == 2 then without_host_bits (network.V4 (big_endian 0 octets, length)) ∷ []
-    else if family == 10 then without_host_bits (network.V6 (big_endian 0 octets, length)) ∷ []
-    else []
+use Rattle.session_model.specs.declared.network.Network.{Network}
+use Rattle.mirror_model.specs.Routes.{width_of, number_of, without_host_bits}
+use Rattle.session_model.specs.Networks.{length_of}
 
 -- Two networks of a family with the same number and length.
 abbrev pub is_same : Network → Network → Bool
 is_same a b = (width_of a == width_of b) && (number_of a == number_of b) && (length_of a == length_of b)
 
--- The network that a record blocks.
+-- The network that a record blocks, without host bits.
 abbrev pub blocked_by : Aside → List Network
-blocked_by (Blocked family octets length) = network_of family octets length
-blocked_by (Unblocked family octets length) = []
-blocked_by (LookedUp family octets) = []
+blocked_by (Blocked n) = without_host_bits n ∷ []
+blocked_by (Unblocked n) = []
+blocked_by (LookedUp a) = []
 
 -- The network that a record unblocks.
 abbrev pub unblocked_by : Aside → List Network
-unblocked_by (Blocked family octets length) = []
-unblocked_by (Unblocked family octets length) = network_of family octets length
-unblocked_by (LookedUp family octets) = []
+unblocked_by (Blocked n) = []
+unblocked_by (Unblocked n) = without_host_bits n ∷ []
+unblocked_by (LookedUp a) = []
 
 -- What an event blocks.
 abbrev pub newly_blocked : {M : Type 0} → Event M → List Network

@@ -13,8 +13,8 @@ use Rattle.rt_dispatch.specs.declared.message.RouteNetlinkMessage.{RouteNetlinkM
 use Rattle.rt_dispatch.specs.declared.message.RouteNetlinkMessage.TheVariants.{NewRoute}
 use Rattle.session_model.specs.declared.address.SocketAddr.{SocketAddr}
 use Rattle.session_model.specs.Events.{Event, Sent, Came, Leftover, Overran, Other, OfRoutes, Blocked, Unblocked}
-use Rattle.mirror_model.specs.declared.network.Network.TheVariants as network
-use Rattle.mirror_model.specs.declared.network.Address.TheVariants as address
+use Rattle.session_model.specs.declared.network.Network.TheVariants as network
+use Rattle.session_model.specs.declared.network.Address.TheVariants as address
 use Rattle.mirror_model.specs.declared.answer.Answer.TheVariants.{Stale}
 use Rattle.mirror_model.specs.Tables.{Tables, Change}
 use Rattle.mirror_model.specs.TableEvents.{Ending, Continues, Finished, Failed, TableEvent, DumpAsked, DumpReply, Notified, Lost, Unrelated}
@@ -211,9 +211,9 @@ stale_after_loss = refl
 
 -- What was blocked, host bits dropped, until it is unblocked.
 abbrev two_blocked : List (Event RouteNetlinkMessage)
-two_blocked = Other (Blocked 2 (10 ∷ 1 ∷ 2 ∷ 3 ∷ []) 16) ∷ Other (Blocked 2 (0 ∷ 0 ∷ 0 ∷ 0 ∷ []) 0) ∷ []
+two_blocked = Other (Blocked (network.V4 (167838211, 16))) ∷ Other (Blocked (network.V4 (0, 0))) ∷ []
 
-blocked : blocked_at (two_blocked ++ Other (Unblocked 2 (9 ∷ 9 ∷ 9 ∷ 9 ∷ []) 0) ∷ []) ≡ network.V4 (167837696, 16) ∷ []
+blocked : blocked_at (two_blocked ++ Other (Unblocked (network.V4 (151587081, 0))) ∷ []) ≡ network.V4 (167837696, 16) ∷ []
 blocked = refl
 
 -- The longest network, then the least priority.

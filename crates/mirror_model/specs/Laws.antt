@@ -8,11 +8,12 @@ use Rattle.std.specs.declared.cmp.Ordering.{Ordering}
 use Rattle.nl_core.specs.Frames.{Format}
 use Rattle.nl_core.specs.declared.message.NetlinkMessage.{NetlinkMessage}
 use Rattle.session_model.specs.declared.address.SocketAddr.{SocketAddr}
+use Rattle.session_model.specs.declared.settings.Settings.{Settings}
 use Rattle.session_model.specs.declared.transcript.Record.{Record}
 use Rattle.session_model.specs.Events.{Event, Came, events_of}
 use Rattle.session_model.specs.Streams.{is_shut}
-use Rattle.mirror_model.specs.declared.network.Address.{Address}
-use Rattle.mirror_model.specs.declared.network.Network.{Network}
+use Rattle.session_model.specs.declared.network.Address.{Address}
+use Rattle.session_model.specs.declared.network.Network.{Network}
 use Rattle.mirror_model.specs.declared.answer.Answer.TheVariants.{Stale}
 use Rattle.mirror_model.specs.Tables.{Tables, Alike}
 use Rattle.mirror_model.specs.TableEvents.{TableEvent, Reply, DumpReply, is_close}
@@ -64,7 +65,7 @@ module _ {M K V : Type 0} (r : Reader M K V) where
 
   -- The events of records ask each dump alone.
   abbrev pub RecordsAskAlone : Format M → Type 0
-  RecordsAskAlone f = (records : List Record) → AllByRecursion (AsksAlone r) (events_of f records)
+  RecordsAskAlone f = (s : Settings) (records : List Record) → AllByRecursion (AsksAlone r) (events_of f s records)
 
   -- A table sees a close exactly where the link has closed.
   abbrev pub ClosesAsShut : Type 0

@@ -8,6 +8,7 @@ pub mod Sessions
 pub mod Routes
 pub mod Blocked
 pub mod Lookups
+pub mod OutputText
 pub mod RouteChanges
 pub mod Honest
 pub mod Laws

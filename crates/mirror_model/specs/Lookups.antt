@@ -4,8 +4,8 @@ use Rattle.std.specs.FinMap.{empty}
 use Rattle.std.specs.Ordering.{nat_cmp}
 use Rattle.session_model.specs.Events.{Event}
 use Rattle.session_model.specs.Streams.{is_shut}
-use Rattle.mirror_model.specs.declared.network.Address.{Address}
-use Rattle.mirror_model.specs.declared.network.Network.{Network}
+use Rattle.session_model.specs.declared.network.Address.{Address}
+use Rattle.session_model.specs.declared.network.Network.{Network}
 use Rattle.mirror_model.specs.declared.answer.Answer.{Answer}
 use Rattle.mirror_model.specs.declared.answer.Answer.TheVariants.{Stale}
 use Rattle.mirror_model.specs.MirrorState.{MirrorState, fresh, state_after}

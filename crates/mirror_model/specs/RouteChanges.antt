@@ -13,10 +13,10 @@ use Rattle.rt_dispatch.specs.declared.message.RouteNetlinkMessage.{RouteNetlinkM
 use Rattle.rt_dispatch.specs.declared.message.RouteNetlinkMessage.TheVariants.{NewRoute, DelRoute}
 use Rattle.session_model.specs.Events.{DumpKind, OfRoutes, OfLinks}
 use Rattle.trie_model.specs.Nets.{masked}
-use Rattle.mirror_model.specs.declared.network.Address.{Address}
-use Rattle.mirror_model.specs.declared.network.Address.TheVariants as address
-use Rattle.mirror_model.specs.declared.network.Network.{Network}
-use Rattle.mirror_model.specs.declared.network.Network.TheVariants as network
+use Rattle.session_model.specs.declared.network.Address.{Address}
+use Rattle.session_model.specs.declared.network.Address.TheVariants as address
+use Rattle.session_model.specs.declared.network.Network.{Network}
+use Rattle.session_model.specs.declared.network.Network.TheVariants as network
 use Rattle.mirror_model.specs.Tables.{Change}
 use Rattle.mirror_model.specs.Sessions.{Reader}
 use Rattle.mirror_model.specs.Routes.{RouteKey, NextHop}

@@ -4,11 +4,12 @@ use Rattle.std.specs.List.{filter, list_any, AllByRecursion}
 use Rattle.std.specs.FinMap.{FinMap, entries, get}
 use Rattle.std.specs.Ordering.{nat_cmp, on, then_cmp}
 use Rattle.std.specs.declared.cmp.Ordering.{Ordering}
+use Rattle.session_model.specs.Networks.{length_of}
 use Rattle.trie_model.specs.Nets.{Net, masked, covers}
-use Rattle.mirror_model.specs.declared.network.Address.{Address}
-use Rattle.mirror_model.specs.declared.network.Address.TheVariants as address
-use Rattle.mirror_model.specs.declared.network.Network.{Network}
-use Rattle.mirror_model.specs.declared.network.Network.TheVariants as network
+use Rattle.session_model.specs.declared.network.Address.{Address}
+use Rattle.session_model.specs.declared.network.Address.TheVariants as address
+use Rattle.session_model.specs.declared.network.Network.{Network}
+use Rattle.session_model.specs.declared.network.Network.TheVariants as network
 use Rattle.mirror_model.specs.declared.route.Route.{Route}
 use Rattle.mirror_model.specs.declared.answer.Answer.{Answer}
 use Rattle.mirror_model.specs.declared.answer.Answer.TheVariants.{Stale, Absent, Found}
@@ -29,11 +30,6 @@ width_of (network.V6 n) = 128
 abbrev pub number_of : Network → ℕ
 number_of (network.V4 n) = n.0
 number_of (network.V6 n) = n.0
-
--- How many leading bits of its number count.
-abbrev pub length_of : Network → ℕ
-length_of (network.V4 n) = n.1
-length_of (network.V6 n) = n.1
 
 -- A network as a prefix of its family, without host bits.
 abbrev pub net_of : Network → Net

@@ -7,6 +7,8 @@ ghost use Rattle.mirror_model.specs.Lookups.{Readers};
 ghost use Rattle.mirror_model.specs.Laws.{Converges, ConvergesExactly, IsStateOfEvents};
 ghost use Rattle.mirror_model.specs.Laws.{SuitsSessions, ClosesAsShut, RecordsAskAlone};
 ghost use Rattle.mirror_model.specs.Laws.{IgnoresOthers, ConvergesInSessions, AnswersBest, BlocksBySteps, BlocksAsSet};
+ghost use Rattle.mirror_model.specs.OutputText.{IsSessionText, OutputGrows};
+ghost use Rattle.session_model.specs.declared.settings.Settings.{Settings};
 ghost use Rattle.mirror_model.specs.Laws.{AnswersAsPeer, AnswersByState, WholeByTest, StepsAsHandled, Grows};
 
 /// Wherever a mirror has a table in force, it is its peer's table there, as long as the peer is honest.
@@ -69,6 +71,12 @@ pub fn answers_best()
 pub fn blocks_by_steps<M>()
     ensures step { BlocksBySteps M }
     ensures set { BlocksAsSet }
+{}
+
+/// A record's text depends on the records up to it alone; and where no record looks anything up, the text is the session's.
+pub fn output_grows<M>()
+    ensures grows { (f : Format M) (s : Settings) (r : Readers M) → OutputGrows f s r }
+    ensures session { (f : Format M) (s : Settings) (r : Readers M) → IsSessionText f s r }
 {}
 
 /// What is asked of a dump's replies can be tested key by key.

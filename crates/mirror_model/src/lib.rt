@@ -12,14 +12,13 @@
 
 mod answer;
 mod laws;
-mod network;
 mod route;
 
 pub use answer::Answer;
 pub use laws::{
     answers_as_peer, answers_best, answers_by_state, blocks_by_steps, converges, converges_exactly,
-    converges_in_sessions, ignores_others, is_afresh, steps_as_handled, suits_sessions,
-    whole_by_test,
+    converges_in_sessions, ignores_others, is_afresh, output_grows, steps_as_handled,
+    suits_sessions, whole_by_test,
 };
-pub use network::{Address, Network};
 pub use route::Route;
+pub use session_model::{Address, Network};

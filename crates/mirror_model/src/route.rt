@@ -1,5 +1,5 @@
 // Routes of a peer.
-use crate::network::{Address, Network};
+use session_model::{Address, Network};
 
 /// A route: its network, its priority (the least one is preferred), its type (an `RTN_` number of
 /// include/uapi/linux/rtnetlink.h), the index of the link that it leaves by, and its gateway.

@@ -2,4 +2,8 @@ pub mod Rising
 pub mod Waiting
 pub mod Received
 pub mod Stages
+pub mod RecordEnds
 pub mod Batches
+pub mod WholeBatches
+pub mod Amounts
+pub mod Asides

@@ -1,34 +1,27 @@
 -- How a record comes further, event by event, and its text at its end.
 use Rattle.std.proofs.Common.{◌≡◌, ◌+◌, ◌<◌, ◌≤◌, ◌==◌, ◌&&◌, ◌||◌, ℕ, Bool, true, false, not, cond, nat_lt, List, [], ◌∷◌, ◌++◌, length, map, Option, Some, None, is_some, flat_map, refl, sym, ◌∙◌, ap, subst, append_assoc, arith, add-zero}
-use Rattle.std.proofs.Math.Bool.{or-false, and-false}
+use Rattle.std.proofs.Math.Bool.{or-false}
 use Rattle.std.specs.List.{filter, list_any}
 use Rattle.std.proofs.lemmas.Grind.{flat_map-append}
-use Rattle.std.proofs.lemmas.List.Folds.{list_any-append}
 use Rattle.std.proofs.lemmas.Bool.Decides.{nat_tests}
 use Rattle.nl_core.specs.Frames.{Format}
 use Rattle.session_model.specs.declared.awaited.Awaited.{Awaited}
 use Rattle.session_model.specs.declared.settings.Settings.{Settings}
-use Rattle.session_model.specs.Events.{Event, Shut, Arrival, arrival_of, arrivals}
+use Rattle.session_model.specs.Events.{Event, Arrival, arrival_of, arrivals}
 use Rattle.session_model.specs.Awaited.{awaited, batch_count, batches_sent, last_number, is_last, ends, first_awaiting, after_arrival}
-use Rattle.session_model.specs.Streams.{is_open, is_shut, shuts, has_closed, closing, open_streams}
-use Rattle.session_model.specs.SessionText.{Placed, place_arrival, placed, stream_of, closed_line, unsolicited_line, reply_line, sent_line, text_of_events}
-use Rattle.session_model.proofs.Places.{append-nil, filter-same, filter-all, arrivals-append, last_number-append, batch_count-append, awaited_more}
+use Rattle.session_model.specs.Streams.{is_open, is_shut, has_closed, closing, open_streams}
+use Rattle.session_model.specs.SessionText.{Placed, place_arrival, placed, stream_of, closed_line, unsolicited_line, unsolicited_text, reply_line, reply_text, sent_line, text_of_events}
+use Rattle.session_model.proofs.Places.{append-nil, filter-same, filter-all}
 use Rattle.session_model.proofs.Arrived.{none_ended}
-use Rattle.proto_core.specs.Session.{Session, arrived_at, replied}
+use Rattle.proto_core.specs.Session.{Session, arrived_at, awaiting, place_of, replied}
 use Rattle.proto_core.specs.declared.messages.Incoming.{Incoming}
 use Rattle.proto_core.specs.declared.messages.Response.{Response}
-use Rattle.session_laws.specs.After.{idle, session_after, TakesIncoming, TakesResponse}
-use Rattle.session_laws.specs.Counts.{awaited_in, open_count, Counts, Closes, SettlesIf, if_any}
+use Rattle.session_laws.specs.After.{idle, session_after, drained, incoming_line, incoming_lines, response_line, response_lines}
+use Rattle.session_laws.specs.Counts.{Counts, Closes, SettlesIf, SettlesAt}
 use Rattle.session_laws.specs.Stage.{Brings, Stage}
 use Rattle.session_laws.proofs.Rising.{has, Rises, filtered}
 use Rattle.session_laws.proofs.Waiting.{awaited_rises, awaited_of, some_within, open_counts, first_kept, first_ended}
 use Rattle.session_laws.proofs.Received.{streams_same, shut_same, awaited_left, session_more, stays, settles}
-
-abbrev no_incoming : {M : Type 0} → Session M ℕ → Session M ℕ
-no_incoming s = record s { incoming = [] }
-
-abbrev no_responses : {M : Type 0} → Session M ℕ → Session M ℕ
-no_responses s = record s { responses = [] }
 
 placed-append : {M : Type 0} (start : ℕ) (before es fs : List (Event M))
     → placed start before (es ++ fs) ≡ placed start before es ++ placed start (before ++ es) fs
@@ -88,10 +81,8 @@ module _ {M : Type 0} (f : Format M) (s : Settings) (before es : List (Event M))
         replied = h.replied ∙ sym (append-nil (flat_map (reply_line f s) (placed s.start before es))) ∙ sym (lines_more (reply_line f s) [] brings);
       }
 
-  module _ (a : Arrival M) (brings : Brings e (a ∷ [])) (s0 s1 s2 s3 : Session M ℕ) (at at' : ℕ → Option ℕ) (closed closed' : ℕ
-      → Bool) (t t' r r' : List ℕ)
-      (h : Stage f s before es s0 at closed t r) (is1 : s1
-      ≡ arrived_at a s0) (first : TakesIncoming f s1 s2 t t') (second : TakesResponse f s s2 s3 r r' at at' closed closed') where
+  module _ (a : Arrival M) (brings : Brings e (a ∷ [])) (s0 : Session M ℕ) (at at' : ℕ → Option ℕ) (closed closed' : ℕ → Bool)
+      (h : Stage f s before es (drained s0) at closed (incoming_lines f s0.incoming) (response_lines f s s0.responses)) where
     abbrev left : List (Awaited ℕ)
     left = after_arrival a (awaited s.start xs)
 
@@ -99,11 +90,14 @@ module _ {M : Type 0} (f : Format M) (s : Settings) (before es : List (Event M))
     awaited_now = awaited_left s.start xs e (a ∷ []) brings ∙ filter-same _ _ (λ w. ap not (or-false (ends a w))) (awaited s.start xs)
 
     -- the parts together
-    reached : (ws : List (Awaited ℕ)) → left ≡ ws → s3 ≡ idle (last_number s.start xs) ws (length (arrivals xs) + 1)
+    reached : (s1 : Session M ℕ) (ws : List (Awaited ℕ)) → left ≡ ws
+        → drained s1 ≡ idle (last_number s.start xs) ws (length (arrivals xs) + 1)
         → Counts at' s.start (before ++ (es ++ e ∷ [])) × Closes closed' s.start before (es ++ e ∷ [])
-        → (o : Option (Awaited ℕ)) → waiting a ≡ o → t' ≡ t ++ unsolicited_line f (place a o) → r' ≡ r ++ reply_line f s (place a o)
-        → Stage f s before (es ++ e ∷ []) s3 at' closed' t' r'
-    reached ws is session both o found text replies =
+        → (o : Option (Awaited ℕ)) → waiting a ≡ o
+        → incoming_lines f s1.incoming ≡ incoming_lines f s0.incoming ++ unsolicited_line f (place a o)
+        → response_lines f s s1.responses ≡ response_lines f s s0.responses ++ reply_line f s (place a o)
+        → Stage f s before (es ++ e ∷ []) (drained s1) at' closed' (incoming_lines f s1.incoming) (response_lines f s s1.responses)
+    reached s1 ws is session both o found text replies =
         let line_of : (line : Placed M → List ℕ)
         → flat_map line (placed s.start before es) ++ line (place a o) ≡ flat_map line (placed s.start before (es ++ e ∷ [])) =
         (λ line. ap (λ p. flat_map line (placed s.start before es) ++ line (place a p)) (sym found)
@@ -135,32 +129,45 @@ module _ {M : Type 0} (f : Format M) (s : Settings) (before es : List (Event M))
         stays s.start before es e at at' closed closed' (awaited_now ∙ first_kept a s.start (awaited s.start xs) w rises found last)
         (shut_same s.start xs e (a ∷ []) brings) st h.counts h.closes
 
-    -- An event that brings a message, once that message was taken in and taken out again.
-    pub received : Stage f s before (es ++ e ∷ []) s3 at' closed' t' r'
-    received = go (waiting a) refl (is1 ∙ ap (arrived_at a) h.stands)
+    abbrev StageAt : Session M ℕ → Type 0
+    StageAt s1 = Stage f s before (es ++ e ∷ []) (drained s1) at' closed' (incoming_lines f s1.incoming) (response_lines f s s1.responses)
+
+    -- An event that brings a message, once the session has taken it in.
+    pub received : SettlesAt (place_of a (awaiting a s0)) at at' closed closed'
+        → Stage f s before (es ++ e ∷ []) (drained (arrived_at a s0)) at' closed' (incoming_lines f (arrived_at a s0).incoming) (response_lines f s (arrived_at a s0).responses)
+    received st = go (waiting a) refl
       where
-        go : (o : Option (Awaited ℕ)) → waiting a ≡ o → s1 ≡ replied a (session_after s.start xs) (waiting a)
-            → Stage f s before (es ++ e ∷ []) s3 at' closed' t' r'
-        go None found is =
-            let b : Session M ℕ = session_after s.start xs in
-            let i : Incoming M = record { message = a.message; source = a.source; arrival = length (arrivals xs) + 1 } in
-            let s1is : s1 ≡ replied a b None = is ∙ ap (replied a b) found in
-            let x = first.one i (ap (λ q. q.incoming) s1is) in
-            let s2is : s2 ≡ record (replied a b None) { incoming = [] } = x.0 ∙ ap no_incoming s1is in
-            let y = second.none (ap (λ q. q.responses) s2is) in
+        same : awaiting a s0 ≡ waiting a
+        same = ap (λ (q : Session M ℕ). first_awaiting a.message.header.sequence_number a.source.port q.awaited) h.stands
+
+        arrived : s0.arrived ≡ length (arrivals xs)
+        arrived = ap (λ (q : Session M ℕ). q.arrived) h.stands
+
+        go : (o : Option (Awaited ℕ)) → waiting a ≡ o → StageAt (arrived_at a s0)
+        go None found =
+            let is : awaiting a s0 ≡ None = same ∙ found in
             let none : left ≡ awaited s.start xs = none_ended a (awaited s.start xs) found in
-            reached (awaited s.start xs) none (y.0 ∙ s2is)
-            (stays s.start before es e at at' closed closed' (awaited_now ∙ none) (shut_same s.start xs e (a ∷ []) brings) y.2 h.counts h.closes)
-            None found x.1 (y.1 ∙ sym (append-nil r))
-        go (Some w) found is =
-            let b : Session M ℕ = session_after s.start xs in
-            let i : Response M ℕ = record { done = is_last a.message w.acks; message = a.message; metadata = w.stream; arrival = length (arrivals xs) + 1 } in
-            let s1is : s1 ≡ replied a b (Some w) = is ∙ ap (replied a b) found in
-            let x = first.none (ap (λ q. q.incoming) s1is) in
-            let s2is : s2 ≡ replied a b (Some w) = x.0 ∙ s1is in
-            let y = second.one i (ap (λ q. q.responses) s2is) in
-            reached left refl (y.0 ∙ ap no_responses s2is) (settled w found (is_last a.message w.acks) refl y.2) (Some w) found (x.1
-            ∙ sym (append-nil t)) y.1
+            let line : ℕ → List ℕ = λ n. unsolicited_text f n a in
+            subst StageAt (ap (replied a s0) (sym is))
+            (reached (replied a s0 None) (awaited s.start xs) none
+            (ap (λ (q : Session M ℕ). record q { arrived = q.arrived + 1 }) h.stands)
+            (stays s.start before es e at at' closed closed' (awaited_now ∙ none) (shut_same s.start xs e (a ∷ []) brings)
+            (subst (λ o. SettlesAt (place_of a o) at at' closed closed') is st) h.counts h.closes)
+            None found
+            (flat_map-append (incoming_line f) s0.incoming (record { message = a.message; source = a.source; arrival = s0.arrived + 1 } ∷ [])
+            ∙ ap (λ u. incoming_lines f s0.incoming ++ u) (append-nil (line (s0.arrived + 1)) ∙ ap (λ n. line (n + 1)) arrived))
+            (sym (append-nil (response_lines f s s0.responses))))
+        go (Some w) found =
+            let is : awaiting a s0 ≡ Some w = same ∙ found in
+            let line : ℕ → List ℕ = λ n. reply_text f s n w.stream a.message in
+            subst StageAt (ap (replied a s0) (sym is))
+            (reached (replied a s0 (Some w)) left refl
+            (ap (λ (q : Session M ℕ). record q { awaited = after_arrival a q.awaited; arrived = q.arrived + 1 }) h.stands)
+            (settled w found (is_last a.message w.acks) refl (subst (λ o. SettlesAt (place_of a o) at at' closed closed') is st))
+            (Some w) found
+            (sym (append-nil (incoming_lines f s0.incoming)))
+            (flat_map-append (response_line f s) s0.responses (record { done = is_last a.message w.acks; message = a.message; metadata = w.stream; arrival = s0.arrived + 1 } ∷ [])
+            ∙ ap (λ u. response_lines f s s0.responses ++ u) (append-nil (line (s0.arrived + 1)) ∙ ap (λ n. line (n + 1)) arrived)))
 
 -- ---- at the end of a record
 
@@ -236,70 +243,3 @@ received_text {M} f s before es session at closed text replies ks h rises is =
     ∙ ap (λ cs. unsolicited ++ (answers ++ flat_map closed_line cs)) (closing_is s.start before es closed ks h.streams h.closes rises is)
     ∙ sym (append_assoc unsolicited answers (flat_map closed_line (closing s.start before es)))
     ∙ ap (λ t. ((t ++ unsolicited) ++ answers) ++ flat_map closed_line (closing s.start before es)) (sym h.silent)
-
--- ---- a record at its beginning
-
--- A record at its beginning: nothing has come of it yet.
-pub begun : {M : Type 0} (f : Format M) (s : Settings) (before : List (Event M)) (session : Session M ℕ) (at : ℕ → Option ℕ) (closed : ℕ → Bool)
-    → session ≡ session_after s.start before → Counts at s.start before → is_shut before ≡ false → ((k : ℕ) → closed k ≡ false)
-    → Stage f s before [] session at closed [] []
-begun f s before session at closed is counts unshut none =
-    let same = sym (append-nil before) in
-    record {
-      stands = is ∙ ap (session_after s.start) same;
-      counts = λ k. counts k ∙ ap (λ es. if_any (open_count s.start es k)) same;
-      closes = record {
-        all = λ k. ap (λ es. is_open s.start es k) same ∙ ap (λ b. b || is_open s.start (before ++ []) k) (sym (none k));
-        apart = λ k. ap (λ b. b && is_open s.start (before ++ []) k) (none k);
-      };
-      unshut = ap is_shut (append-nil before) ∙ unshut;
-      streams = ap (batch_count 0) (append-nil before);
-      silent = refl;
-      unsolicited = refl;
-      replied = refl;
-    }
-
--- ---- a close
-
-module _ {M : Type 0} (f : Format M) (s : Settings) (before : List (Event M)) where
-  -- After a close the link is closed.
-  pub shut_shut : is_shut (before ++ Shut ∷ []) ≡ true
-  shut_shut = list_any-append shuts before (Shut ∷ []) ∙ or-true (is_shut before)
-    where
-      or-true : (b : Bool) → (b || true) ≡ true
-      or-true true = refl
-      or-true false = refl
-
-  -- A close leaves the session as it is.
-  pub shut_session : session_after s.start (before ++ Shut ∷ []) ≡ session_after s.start before
-  shut_session =
-      let after = before ++ Shut ∷ [] in
-      let last = last_number s.start before in
-      let waits = awaited_more s.start 0 before Shut ∙ append-nil (filter (λ w. true) (awaited s.start before)) in
-      ap (λ n. idle n (awaited s.start after) (length (arrivals after)))
-      (last_number-append s.start before (Shut ∷ []) ∙ add-zero last)
-      ∙ ap (λ ws. idle last ws (length (arrivals after))) (waits ∙ filter-all (awaited s.start before))
-      ∙ ap (λ n. idle last (awaited s.start before) n)
-      (ap length (arrivals-append before (Shut ∷ []) ∙ append-nil (arrivals before)))
-
-  -- A close is no batch.
-  pub shut_streams : batch_count 0 (before ++ Shut ∷ []) ≡ batch_count 0 before
-  shut_streams = batch_count-append 0 before (Shut ∷ []) ∙ add-zero (batch_count 0 before)
-
-  -- After a close no stream is open.
-  pub shut_counts : (at : ℕ → Option ℕ) → ((k : ℕ) → at k ≡ None) → Counts at s.start (before ++ Shut ∷ [])
-  shut_counts at none k = none k ∙ ap (λ b. if_any (cond b 0 (awaited_in k (awaited s.start (before ++ Shut ∷ []))))) (sym shut_shut)
-
-  -- A close closes the streams that are open.
-  pub shut_text : (at : ℕ → Option ℕ) (ks : List ℕ) → Counts at s.start before → Rises ks → ((k : ℕ) → has k ks ≡ is_some (at k))
-      → flat_map closed_line ks ≡ text_of_events f s before (Shut ∷ [])
-  shut_text at ks counts rises is =
-      ap (flat_map closed_line) (closing_is s.start before (Shut ∷ []) (λ k. is_open s.start before k) ks shut_streams
-      (record {
-        all = λ k. sym (or-false (is_open s.start before k)) ∙ ap (λ b. is_open s.start before k || b) (sym (gone k));
-        apart = λ k. ap (λ b. is_open s.start before k && b) (gone k) ∙ and-false (is_open s.start before k);
-      })
-      rises (λ k. is k ∙ ap is_some (counts k) ∙ sym (open_counts s.start before k)))
-    where
-      gone : (k : ℕ) → is_open s.start (before ++ Shut ∷ []) k ≡ false
-      gone k = ap (λ b. not b && list_any (λ (w : Awaited ℕ). w.stream == k) (awaited s.start (before ++ Shut ∷ []))) shut_shut

@@ -5,6 +5,8 @@ use Rattle.session_model.specs.declared.awaited.Awaited.{Awaited}
 use Rattle.session_model.specs.Events.{Event}
 use Rattle.session_model.specs.Awaited.{awaited}
 use Rattle.session_model.specs.Streams.{is_open, is_shut}
+use Rattle.proto_core.specs.declared.messages.Place.{Place}
+use Rattle.proto_core.specs.declared.messages.Place.TheVariants.{Reply, Unsolicited}
 
 -- How many numbers of a stream stand in a list.
 abbrev pub awaited_in : ℕ → List (Awaited ℕ) → ℕ
@@ -52,3 +54,8 @@ pub record Stays (at at' : ℕ → Option ℕ) (closed closed' : ℕ → Bool) :
 abbrev pub SettlesIf : Bool → ℕ → (ℕ → Option ℕ) → (ℕ → Option ℕ) → (ℕ → Bool) → (ℕ → Bool) → Type 0
 SettlesIf true stream at at' closed closed' = Settles stream at at' closed closed'
 SettlesIf false stream at at' closed closed' = Stays at at' closed closed'
+
+-- The same by where a message went: only the last reply of a number settles it.
+abbrev pub SettlesAt : Place ℕ → (ℕ → Option ℕ) → (ℕ → Option ℕ) → (ℕ → Bool) → (ℕ → Bool) → Type 0
+SettlesAt (Reply stream done) at at' closed closed' = SettlesIf done stream at at' closed closed'
+SettlesAt Unsolicited at at' closed closed' = Stays at at' closed closed'

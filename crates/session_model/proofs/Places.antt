@@ -93,12 +93,12 @@ module _ {M : Type 0} where
 module _ {M : Type 0} (f : Format M) (s : Settings) where
   -- One record more adds its text.
   pub text_after-more : (before : List (Event M)) (rs : List Record) (r : Record)
-      → text_after f s before (rs ++ r ∷ []) ≡ text_after f s before rs ++ text_of_events f s (before ++ events_of f rs) (record_events f r)
-  text_after-more before [] r = append-nil (text_of_events f s before (record_events f r))
-      ∙ ap (λ es. text_of_events f s es (record_events f r)) (sym (append-nil before))
+      → text_after f s before (rs ++ r ∷ []) ≡ text_after f s before rs ++ text_of_events f s (before ++ events_of f s rs) (record_events f s r)
+  text_after-more before [] r = append-nil (text_of_events f s before (record_events f s r))
+      ∙ ap (λ es. text_of_events f s es (record_events f s r)) (sym (append-nil before))
   text_after-more before (x ∷ rs) r =
-      let mine = text_of_events f s before (record_events f x) in
-      let now = before ++ record_events f x in
+      let mine = text_of_events f s before (record_events f s x) in
+      let now = before ++ record_events f s x in
       ap (λ t. mine ++ t) (text_after-more now rs r)
-      ∙ sym (append_assoc mine (text_after f s now rs) (text_of_events f s (now ++ events_of f rs) (record_events f r)))
-      ∙ ap (λ es. (mine ++ text_after f s now rs) ++ text_of_events f s es (record_events f r)) (append_assoc before (record_events f x) (events_of f rs))
+      ∙ sym (append_assoc mine (text_after f s now rs) (text_of_events f s (now ++ events_of f s rs) (record_events f s r)))
+      ∙ ap (λ es. (mine ++ text_after f s now rs) ++ text_of_events f s es (record_events f s r)) (append_assoc before (record_events f s x) (events_of f s rs))

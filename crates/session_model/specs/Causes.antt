@@ -1,6 +1,6 @@
 -- Why an input isn't run to its end: the cause of the first whole line that has one, or else its length or its unfinished
 -- line. `Allowed` says which records there are.
-use Rattle.std.specs.Prelude.{◌≡◌, ◌≢◌, ◌+◌, ◌<◌, ◌≤◌, ◌⊎◌, ℕ, Bool, true, false, if◌then◌else◌, not, List, [], ◌∷◌, ◌++◌, length, Option, Some, None, Result, Ok, Err, nat_lt}
+use Rattle.std.specs.Prelude.{◌≡◌, ◌≢◌, ◌+◌, ◌<◌, ◌≤◌, ◌⊎◌, ◌&&◌, ℕ, Bool, true, false, if◌then◌else◌, not, List, [], ◌∷◌, ◌++◌, length, Option, Some, None, Result, Ok, Err, nat_lt}
 use Rattle.std.specs.List.{list_all}
 use Rattle.nl_core.specs.Frames.{Format, frame_at, message_fits}
 use Rattle.nl_core.specs.declared.error.DecodeError.{DecodeError}
@@ -10,7 +10,7 @@ use Rattle.session_model.specs.declared.outcome.RunFault.TheVariants as run
 use Rattle.session_model.specs.declared.settings.Settings.{Settings}
 use Rattle.session_model.specs.declared.transcript.BatchFrame.{BatchFrame}
 use Rattle.session_model.specs.declared.transcript.Record.{Record}
-use Rattle.session_model.specs.declared.transcript.Record.TheVariants.{Recv, Overrun, Close, Batch}
+use Rattle.session_model.specs.declared.transcript.Record.TheVariants.{Recv, Overrun, Close, Batch, Resync, Block, Unblock, Lookup}
 use Rattle.session_model.specs.Events.{Event, record_events, events_of}
 use Rattle.session_model.specs.Awaited.{last_number}
 use Rattle.session_model.specs.Streams.{is_shut}
@@ -36,6 +36,21 @@ numbers_of (Recv source bytes) = 0
 numbers_of Overrun = 0
 numbers_of Close = 0
 numbers_of (Batch to frames) = length frames
+numbers_of Resync = 1
+numbers_of (Block n) = 0
+numbers_of (Unblock n) = 0
+numbers_of (Lookup a) = 0
+
+-- Whether a record is of the link. The others are taken after its close too.
+abbrev pub is_of_link : Record → Bool
+is_of_link (Recv source bytes) = true
+is_of_link Overrun = true
+is_of_link Close = true
+is_of_link (Batch to frames) = true
+is_of_link Resync = true
+is_of_link (Block n) = false
+is_of_link (Unblock n) = false
+is_of_link (Lookup a) = false
 
 module _ {M : Type 0} (f : Format M) where
   -- Whether what a frame reads as fits; one that can't be read is no message.
@@ -53,6 +68,10 @@ module _ {M : Type 0} (f : Format M) where
   all_fit Overrun = true
   all_fit Close = true
   all_fit (Batch to frames) = list_all frame_fits frames
+  all_fit Resync = true
+  all_fit (Block n) = true
+  all_fit (Unblock n) = true
+  all_fit (Lookup a) = true
 
 -- No record that is allowed has this line.
 abbrev pub IsNoRecord : (Record → Type 0) → List ℕ → Type 0
@@ -62,7 +81,7 @@ module _ {M : Type 0} (f : Format M) (s : Settings) where
   -- Why a record isn't taken after events, the first cause of these.
   abbrev pub refusal : List (Event M) → Record → Option Refusal
   refusal before r =
-      if is_shut before then Some AfterClose
+      if is_of_link r && is_shut before then Some AfterClose
       else if nat_lt greatest_number (last_number s.start before + numbers_of r) then Some OutOfNumbers
       else if not (all_fit f r) then Some TooLong
       else None
@@ -71,7 +90,7 @@ module _ {M : Type 0} (f : Format M) (s : Settings) where
     -- Records that are taken one after another.
     abbrev pub AreTaken : List (Event M) → List Record → Type 0
     AreTaken before [] = Unit {0}
-    AreTaken before (r ∷ rs) = Allowed r × (refusal before r ≡ None) × AreTaken (before ++ record_events f r) rs
+    AreTaken before (r ∷ rs) = Allowed r × (refusal before r ≡ None) × AreTaken (before ++ record_events f s r) rs
 
     -- What is left after records begins with a whole line that ends within the limit.
     pub record BeginsLine (rs : List Record) (left line : List ℕ) : Type 0 where
@@ -93,7 +112,7 @@ module _ {M : Type 0} (f : Format M) (s : Settings) where
       pub begins : BeginsLine rs left line
       pub is : line ++ newline ∷ [] ≡ record_line entry
       pub allowed : Allowed entry
-      pub cause : refusal (events_of f rs) entry ≡ Some why
+      pub cause : refusal (events_of f s rs) entry ≡ Some why
 
     -- What is left is a line without its end, and the input isn't longer than the limit.
     pub record IsUnfinished (rs : List Record) (left : List ℕ) : Type 0 where

@@ -1,11 +1,14 @@
 -- The events of a transcript, in order, and the arrivals among them. A place is the list of the events before it.
-use Rattle.std.specs.Prelude.{◌+◌, ℕ, Bool, true, false, List, [], ◌∷◌, ◌++◌, map, length, Option, None, Result, Ok, Err, flat_map}
+use Rattle.std.specs.Prelude.{◌+◌, ℕ, Bool, true, false, List, [], ◌∷◌, ◌++◌, map, length, replicate, Option, Some, None, Result, Ok, Err, flat_map}
 use Rattle.nl_core.specs.Frames.{Format, header_at, frame_at, payload_text, finalized}
 use Rattle.nl_core.specs.declared.header.NetlinkHeader.{NetlinkHeader}
 use Rattle.nl_core.specs.declared.error.DecodeError.{DecodeError}
 use Rattle.nl_core.specs.declared.message.NetlinkMessage.{NetlinkMessage}
 use Rattle.nl_core.specs.declared.message.NetlinkPayload.TheVariants.{Overrun}
 use Rattle.session_model.specs.declared.address.SocketAddr.{SocketAddr}
+use Rattle.session_model.specs.declared.network.Address.{Address}
+use Rattle.session_model.specs.declared.network.Network.{Network}
+use Rattle.session_model.specs.declared.settings.Settings.{Settings}
 use Rattle.session_model.specs.declared.transcript.Mark.{Mark}
 use Rattle.session_model.specs.declared.transcript.Mark.TheVariants.{ByFlags, Expected, NotExpected}
 use Rattle.session_model.specs.declared.transcript.BatchFrame.{BatchFrame}
@@ -27,15 +30,14 @@ pub record Asked : Type 0 where
   pub awaits : Bool
   pub dumps : Option DumpKind
 
--- What a record says that only a mirror reads, by an address family, bits and a length. No definition of a session looks
--- into it.
+-- What a record says that only a mirror reads. No definition of a session looks into it.
 pub data Aside : Type 0 where
-  -- a prefix is blocked
-  Blocked : ℕ → List ℕ → ℕ → Aside
-  -- a prefix is blocked no longer
-  Unblocked : ℕ → List ℕ → ℕ → Aside
+  -- a network is blocked
+  Blocked : Network → Aside
+  -- a network is blocked no longer
+  Unblocked : Network → Aside
   -- an address is looked up
-  LookedUp : ℕ → List ℕ → Aside
+  LookedUp : Address → Aside
 
 -- What a record brings, one after another.
 pub data Event (M : Type 0) : Type 0 where
@@ -91,6 +93,15 @@ is_awaited_by ByFlags h = wants_reply h
 is_awaited_by Expected h = true
 is_awaited_by NotExpected h = false
 
+-- The request for a dump of all routes: a header of RTM_GETROUTE (26) with NLM_F_REQUEST and NLM_F_DUMP (0x301), and the
+-- header of a route, all zero.
+abbrev pub resync_bytes : List ℕ
+resync_bytes = 28 ∷ 0 ∷ 0 ∷ 0 ∷ 26 ∷ 0 ∷ 1 ∷ 3 ∷ replicate 20 0
+
+-- A resync sends this request, by its flags.
+abbrev pub resync_frames : List BatchFrame
+resync_frames = record { mark = ByFlags; bytes = resync_bytes } ∷ []
+
 module _ {M : Type 0} (f : Format M) where
   -- What a frame of a datagram brings.
   abbrev pub brought : SocketAddr → List ℕ → Result (NetlinkMessage M) DecodeError → Event M
@@ -107,28 +118,41 @@ module _ {M : Type 0} (f : Format M) where
   datagram_events source bytes =
       map (λ frame. brought source frame (frame_at f.reads frame)) (frames_of bytes) ++ leftover source (rest_of bytes)
 
-  -- A message as a request sends it, with the length and the type of its payload.
-  abbrev pub asked_message : Mark → Result (NetlinkMessage M) DecodeError → List Asked
-  asked_message mark (Ok m) =
+  -- A message as a request sends it, with the length and the type of its payload; the dump that it asks for is given.
+  abbrev pub asked_message : Option DumpKind → Mark → Result (NetlinkMessage M) DecodeError → List Asked
+  asked_message dumps mark (Ok m) =
       record {
         header = (finalized f.kind f.text m).header;
         payload = payload_text f.text m.payload;
         awaits = is_awaited_by mark m.header;
-        dumps = None;
+        dumps = dumps;
       } ∷ []
-  asked_message mark (Err e) = []
+  asked_message dumps mark (Err e) = []
 
-  -- The frames of a batch that can be read, as a request sends them.
+  -- The frames that can be read, as a request sends them.
+  abbrev pub asked_for : Option DumpKind → List BatchFrame → List Asked
+  asked_for dumps frames = flat_map (λ (frame : BatchFrame). asked_message dumps frame.mark (frame_at f.reads frame.bytes)) frames
+
+  -- The frames of a batch. No mirror follows a dump that they ask for.
   abbrev pub asked : List BatchFrame → List Asked
-  asked frames = flat_map (λ (frame : BatchFrame). asked_message frame.mark (frame_at f.reads frame.bytes)) frames
+  asked frames = asked_for None frames
 
-  -- Every record but a datagram is one event.
-  abbrev pub record_events : Record → List (Event M)
-  record_events (records.Recv source bytes) = datagram_events source bytes
-  record_events records.Overrun = Overran ∷ []
-  record_events records.Close = Shut ∷ []
-  record_events (records.Batch to frames) = Sent to (asked frames) ∷ []
+  module _ (s : Settings) where
+    -- The address of the peer.
+    abbrev pub peer_address : SocketAddr
+    peer_address = record { port = s.peer; groups = 0 }
 
-  -- The events of records, in order.
-  abbrev pub events_of : List Record → List (Event M)
-  events_of rs = flat_map record_events rs
+    -- Every record but a datagram is one event.
+    abbrev pub record_events : Record → List (Event M)
+    record_events (records.Recv source bytes) = datagram_events source bytes
+    record_events records.Overrun = Overran ∷ []
+    record_events records.Close = Shut ∷ []
+    record_events (records.Batch to frames) = Sent to (asked frames) ∷ []
+    record_events records.Resync = Sent peer_address (asked_for (Some OfRoutes) resync_frames) ∷ []
+    record_events (records.Block n) = Other (Blocked n) ∷ []
+    record_events (records.Unblock n) = Other (Unblocked n) ∷ []
+    record_events (records.Lookup a) = Other (LookedUp a) ∷ []
+
+    -- The events of records, in order.
+    abbrev pub events_of : List Record → List (Event M)
+    events_of rs = flat_map record_events rs

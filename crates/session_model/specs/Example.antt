@@ -41,7 +41,7 @@ abbrev text : List Record → List ℕ
 text rs = session_text raw_format usual rs
 
 abbrev report : List Record → Report
-report rs = report_of raw_format usual rs
+report rs = report_of raw_format usual false rs
 
 abbrev lined : List ℕ → List ℕ
 lined words = words ++ 10 ∷ []

@@ -6,6 +6,7 @@ pub mod Events
 pub mod Awaited
 pub mod Streams
 pub mod Lines
+pub mod Networks
 pub mod SessionText
 pub mod Transcript
 pub mod Reported

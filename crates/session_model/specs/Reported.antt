@@ -1,5 +1,5 @@
 -- What a run reports of its records.
-use Rattle.std.specs.Prelude.{◌+◌, ℕ, false, List, [], ◌∷◌, length}
+use Rattle.std.specs.Prelude.{◌+◌, ℕ, Bool, List, [], ◌∷◌, length}
 use Rattle.nl_core.specs.Frames.{Format}
 use Rattle.session_model.specs.declared.outcome.Report.{Report}
 use Rattle.session_model.specs.declared.settings.Settings.{Settings}
@@ -22,12 +22,12 @@ abbrev pub dropped_count : {M : Type 0} → List (Event M) → ℕ
 dropped_count [] = 0
 dropped_count (e ∷ es) = drops e + dropped_count es
 
--- The counts of records, arrivals, drops and open streams. No record asks for a mirror yet, so none is in step.
-abbrev pub report_of : {M : Type 0} → Format M → Settings → List Record → Report
-report_of f s rs = record {
+-- The counts of records, arrivals, drops and open streams, and whether a mirror is in step, which is given.
+abbrev pub report_of : {M : Type 0} → Format M → Settings → Bool → List Record → Report
+report_of f s in_step rs = record {
   lines = length rs;
-  messages = length (arrivals (events_of f rs));
-  dropped = dropped_count (events_of f rs);
-  still_open = length (open_streams s.start (events_of f rs));
-  in_step = false;
+  messages = length (arrivals (events_of f s rs));
+  dropped = dropped_count (events_of f s rs);
+  still_open = length (open_streams s.start (events_of f s rs));
+  in_step = in_step;
 }

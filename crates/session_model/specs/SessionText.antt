@@ -124,7 +124,7 @@ module _ {M : Type 0} (f : Format M) (s : Settings) where
   abbrev pub text_after : List (Event M) → List Record → List ℕ
   text_after before [] = []
   text_after before (r ∷ rs) =
-      text_of_events before (record_events f r) ++ text_after (before ++ record_events f r) rs
+      text_of_events before (record_events f s r) ++ text_after (before ++ record_events f s r) rs
 
   -- The text of a whole session.
   abbrev pub session_text : List Record → List ℕ
@@ -134,4 +134,4 @@ module _ {M : Type 0} (f : Format M) (s : Settings) where
 abbrev pub TextGrows : {M : Type 0} → Format M → Type 0
 TextGrows {M} f =
     (s : Settings) (rs : List Record) (r : Record)
-    → session_text f s (rs ++ r ∷ []) ≡ session_text f s rs ++ text_of_events f s (events_of f rs) (record_events f r)
+    → session_text f s (rs ++ r ∷ []) ≡ session_text f s rs ++ text_of_events f s (events_of f s rs) (record_events f s r)

@@ -9,8 +9,9 @@ use Rattle.session_model.specs.declared.transcript.Mark.{Mark}
 use Rattle.session_model.specs.declared.transcript.Mark.TheVariants.{ByFlags, Expected, NotExpected}
 use Rattle.session_model.specs.declared.transcript.BatchFrame.{BatchFrame}
 use Rattle.session_model.specs.declared.transcript.Record.{Record}
-use Rattle.session_model.specs.declared.transcript.Record.TheVariants.{Recv, Overrun, Close, Batch}
+use Rattle.session_model.specs.declared.transcript.Record.TheVariants.{Recv, Overrun, Close, Batch, Resync, Block, Unblock, Lookup}
 use Rattle.session_model.specs.Lines.{newline, hex_word, line}
+use Rattle.session_model.specs.Networks.{IsHost, IsNetwork, address_words, network_words}
 
 -- The letters `f`, `e` and `n`.
 abbrev pub mark_letter : Mark → ℕ
@@ -32,6 +33,10 @@ record_words (Recv source bytes) = codes "recv" ∷ decimal source.port ∷ deci
 record_words Overrun = codes "overrun" ∷ []
 record_words Close = codes "close" ∷ []
 record_words (Batch to frames) = codes "batch" ∷ decimal to.port ∷ decimal to.groups ∷ map frame_word frames
+record_words Resync = codes "resync" ∷ []
+record_words (Block n) = codes "block" ∷ network_words n
+record_words (Unblock n) = codes "unblock" ∷ network_words n
+record_words (Lookup a) = codes "lookup" ∷ address_words a
 
 -- The line of a record.
 abbrev pub record_line : Record → List ℕ
@@ -70,6 +75,10 @@ IsSpelled (Recv source bytes) = IsAddress source × AreBytes bytes × (length by
 IsSpelled Overrun = Unit {0}
 IsSpelled Close = Unit {0}
 IsSpelled (Batch to frames) = IsAddress to × AreFrames AreBytes frames
+IsSpelled Resync = Unit {0}
+IsSpelled (Block n) = IsNetwork n
+IsSpelled (Unblock n) = IsNetwork n
+IsSpelled (Lookup a) = IsHost a
 
 -- Bytes are one frame that can be read, and whose length field is its count of bytes.
 pub record IsWholeFrame {M : Type 0} (reads : ℕ → List ℕ → Result M DecodeError) (bytes : List ℕ) : Type 0 where
@@ -82,6 +91,10 @@ HasWholeFrames reads (Recv source bytes) = Unit {0}
 HasWholeFrames reads Overrun = Unit {0}
 HasWholeFrames reads Close = Unit {0}
 HasWholeFrames reads (Batch to frames) = AreFrames (IsWholeFrame reads) frames
+HasWholeFrames reads Resync = Unit {0}
+HasWholeFrames reads (Block n) = Unit {0}
+HasWholeFrames reads (Unblock n) = Unit {0}
+HasWholeFrames reads (Lookup a) = Unit {0}
 
 -- A record of a transcript, by how the inner messages of its frames are read.
 abbrev pub IsRecord : {M : Type 0} → (ℕ → List ℕ → Result M DecodeError) → Record → Type 0

@@ -5,6 +5,7 @@
 mod address;
 mod awaited;
 mod laws;
+mod network;
 mod outcome;
 mod settings;
 mod transcript;
@@ -12,6 +13,7 @@ mod transcript;
 pub use address::SocketAddr;
 pub use awaited::Awaited;
 pub use laws::{one_cut, text_grows};
+pub use network::{Address, Network};
 pub use outcome::{Report, RunFault};
 pub use settings::Settings;
 pub use transcript::{BatchFrame, Mark, Record};

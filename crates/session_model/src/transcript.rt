@@ -1,5 +1,6 @@
 //! The records of a transcript.
 use crate::address::SocketAddr;
+use crate::network::{Address, Network};
 use nl_core::{Items, Octets};
 
 /// Which frames of a batch await a reply: by their flags, each, or none.
@@ -18,7 +19,8 @@ pub struct BatchFrame {
 }
 
 /// One line of a transcript: a datagram that came, an overrun of the link, its close, or one request of any number of
-/// frames.
+/// frames; a dump of the peer's routes that is asked; a network that is blocked, or blocked no longer, as the line spells
+/// it; an address that is looked up.
 #[derive(Debug, PartialEq, Eq, Drop)]
 pub enum Record {
     Recv {
@@ -31,4 +33,8 @@ pub enum Record {
         to: SocketAddr,
         frames: Items<BatchFrame>,
     },
+    Resync,
+    Block(Network),
+    Unblock(Network),
+    Lookup(Address),
 }

@@ -21,12 +21,12 @@ digit_inside : (w : List ℕ) (b : ℕ) (more : List ℕ) → AreDigits ((w ++ b
 digit_inside [] b more h = h.0
 digit_inside (x ∷ w) b more h = digit_inside w b more h.1
 
-shape : (v : ℕ) (t : Bool) → nat_lt v 10 ≡ t → 45 < cond t (48 + v) (87 + v)
+shape : (v : ℕ) (t : Bool) → nat_lt v 10 ≡ t → 47 < cond t (48 + v) (87 + v)
 shape v true e = omega arith
 shape v false e = omega arith
 
--- A digit is above the dash.
-pub above_dash : (v : ℕ) → 45 < hex_digit v
+-- A digit is above the dash and the slash.
+pub above_dash : (v : ℕ) → 47 < hex_digit v
 above_dash v = shape v (nat_lt v 10) refl
 
 -- A word of one byte or more.

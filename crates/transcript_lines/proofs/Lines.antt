@@ -9,17 +9,23 @@ use Rattle.std.specs.Str.Parse.{AllDigits}
 use Rattle.std.proofs.lemmas.Bool.Decides.{nat_tests}
 use Rattle.std.proofs.lemmas.Str.Parse.{digit_from_value}
 use Rattle.session_model.specs.Lines.{hex_word, hex_byte}
+use Rattle.session_model.specs.Networks.{IsNetwork, base_of, digits_of, family_word, length_of, network_words, octets_of}
 use Rattle.session_model.specs.Transcript.{AreBytes, AreFrames, IsSpelled, record_words, record_line, frame_word, mark_letter, has_newline}
+use Rattle.session_model.specs.declared.network.Address.{Address}
+use Rattle.session_model.specs.declared.network.Address.TheVariants as address
+use Rattle.session_model.specs.declared.network.Network.{Network}
+use Rattle.session_model.specs.declared.network.Network.TheVariants as network
 use Rattle.session_model.specs.declared.transcript.BatchFrame.{BatchFrame}
 use Rattle.session_model.specs.declared.transcript.Mark.{Mark}
 use Rattle.session_model.specs.declared.transcript.Mark.TheVariants.{ByFlags, Expected, NotExpected}
 use Rattle.session_model.specs.declared.transcript.Record.{Record}
-use Rattle.session_model.specs.declared.transcript.Record.TheVariants.{Recv, Overrun, Close, Batch}
+use Rattle.session_model.specs.declared.transcript.Record.TheVariants.{Recv, Overrun, Close, Batch, Resync, Block, Unblock, Lookup}
 use Rattle.transcript_lines.specs.Words.{words_of}
 use Rattle.session_model.specs.Causes.{IsNoRecord}
 use Rattle.transcript_lines.specs.Line.{IsRecordOf}
 use Rattle.transcript_lines.proofs.Decimals.{decimal_digits}
 use Rattle.transcript_lines.proofs.HexDigits.{AreDigits, digits_in, above_dash}
+use Rattle.transcript_lines.proofs.Octets.{octets_bytes}
 use Rattle.transcript_lines.proofs.Splits.{IsWord, words_joined, joined_words}
 
 -- Each byte is above the space.
@@ -56,6 +62,27 @@ frames_printed : (fs : List BatchFrame) → AreFrames AreBytes fs → AllByRecur
 frames_printed [] h = tt
 frames_printed (f ∷ fs) h = (frame_printed f h.0, frames_printed fs h.1)
 
+family_printed : (a : Address) → IsPrinted (family_word a)
+family_printed (address.V4 n) = (refl, tt)
+family_printed (address.V6 n) = (refl, tt)
+
+digits_of_printed : (a : Address) → IsPrinted (digits_of a)
+digits_of_printed a = bytes_printed (octets_of a) (octets_bytes a)
+
+both_printed : (v w : List ℕ) → IsPrinted v → IsPrinted w → IsPrinted (v ++ w)
+both_printed [] w h k = k
+both_printed (b ∷ v) w h k = (h.0, both_printed v w h.1 k)
+
+network_printed : (n : Network) → IsNetwork n → AllByRecursion IsPrinted (network_words n)
+network_printed n h =
+    let base = base_of n in
+    let length = 47 ∷ decimal (length_of n) in
+    (family_printed base, (both_printed (digits_of base) length (digits_of_printed base) (refl, length_printed n h), tt))
+  where
+    length_printed : (n : Network) → IsNetwork n → IsPrinted (decimal (length_of n))
+    length_printed (network.V4 p) h = decimal_printed p.1 (omega (arith, h.1))
+    length_printed (network.V6 p) h = decimal_printed p.1 (omega (arith, h.1))
+
 record_printed : (r : Record) → IsSpelled r → AllByRecursion IsPrinted (record_words r)
 record_printed (Recv a bytes) h =
     ((refl, (refl, (refl, (refl, tt)))), (decimal_printed a.port h.0.port, (decimal_printed a.groups h.0.groups, (bytes_printed bytes h.1, tt))))
@@ -63,6 +90,10 @@ record_printed Overrun h = ((refl, (refl, (refl, (refl, (refl, (refl, (refl, tt)
 record_printed Close h = ((refl, (refl, (refl, (refl, (refl, tt))))), tt)
 record_printed (Batch a fs) h =
     ((refl, (refl, (refl, (refl, (refl, tt))))), (decimal_printed a.port h.0.port, (decimal_printed a.groups h.0.groups, frames_printed fs h.1)))
+record_printed Resync h = ((refl, (refl, (refl, (refl, (refl, (refl, tt)))))), tt)
+record_printed (Block n) h = ((refl, (refl, (refl, (refl, (refl, tt))))), network_printed n h)
+record_printed (Unblock n) h = ((refl, (refl, (refl, (refl, (refl, (refl, (refl, tt))))))), network_printed n h)
+record_printed (Lookup a) h = ((refl, (refl, (refl, (refl, (refl, (refl, tt)))))), (family_printed a, (digits_of_printed a, tt)))
 
 printed_word : (word : List ℕ) → IsPrinted word → IsWord word
 printed_word [] h = tt
@@ -84,6 +115,10 @@ record_joined (Recv a bytes) h = words_joined _ _ (record_is_words (Recv a bytes
 record_joined Overrun h = words_joined _ _ (record_is_words Overrun h)
 record_joined Close h = words_joined _ _ (record_is_words Close h)
 record_joined (Batch a fs) h = words_joined _ _ (record_is_words (Batch a fs) h)
+record_joined Resync h = words_joined _ _ (record_is_words Resync h)
+record_joined (Block n) h = words_joined _ _ (record_is_words (Block n) h)
+record_joined (Unblock n) h = words_joined _ _ (record_is_words (Unblock n) h)
+record_joined (Lookup a) h = words_joined _ _ (record_is_words (Lookup a) h)
 
 printed_newline : (word : List ℕ) → IsPrinted word → has_newline word ≡ false
 printed_newline [] h = refl

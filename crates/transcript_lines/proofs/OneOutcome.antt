@@ -96,7 +96,7 @@ module _ {M : Type 0} (f : Format M) (s : Settings) (Allowed : Record → Type 0
   abbrev IsJudged : List Record → List ℕ → Option Refusal → Type 0
   IsJudged rs line None = IsNoRecord Allowed line
   IsJudged rs line (Some why) = (entry : Record) × (line ++ 10 ∷ [] ≡ record_line entry) × Allowed entry
-      × (refusal f s (events_of f rs) entry ≡ Some why)
+      × (refusal f s (events_of f s rs) entry ≡ Some why)
 
   -- What is left after records ends a reading so.
   abbrev EndsAt : List Record → List ℕ → Ending → Type 0
@@ -116,7 +116,7 @@ module _ {M : Type 0} (f : Format M) (s : Settings) (Allowed : Record → Type 0
   -- The place among events after records.
   abbrev place : List (Event M) → List Record → List (Event M)
   place before [] = before
-  place before (r ∷ rs) = place (before ++ record_events f r) rs
+  place before (r ∷ rs) = place (before ++ record_events f s r) rs
 
   -- A longer list of records takes one more where a shorter one ends.
   record GoesOn (before : List (Event M)) (rs : List Record) (left : List ℕ) (longer : List Record) : Type 0 where
@@ -142,7 +142,7 @@ module _ {M : Type 0} (f : Format M) (s : Settings) (Allowed : Record → Type 0
   one_verdict rs line (Some a) None h k = absurd (k h.0 h.2 h.1)
   one_verdict rs line (Some a) (Some b) h k =
       let same : h.0 ≡ k.0 = record_of_line h.0 k.0 (spelled h.0 h.2) (spelled k.0 k.2) (sym h.1 ∙ k.1) in
-      sym h.3 ∙ ap (λ entry. refusal f s (events_of f rs) entry) same ∙ k.3
+      sym h.3 ∙ ap (λ entry. refusal f s (events_of f s rs) entry) same ∙ k.3
 
   line_part : {X : Type 0} (rs : List Record) (left line : List ℕ) → BeginsLine f s Allowed rs left line → has_newline left ≡ false → X
   line_part rs left line begins part = absurd (no_end line begins.rest (ap has_newline (sym begins.spelled) ∙ part))
@@ -180,12 +180,12 @@ module _ {M : Type 0} (f : Format M) (s : Settings) (Allowed : Record → Type 0
   -- No reading ends before a record that is taken and ends within the limit.
   not_before : (rs : List Record) (left : List ℕ) (ending : Ending) → EndsAt f s Allowed rs left ending → (next : Record) (more : List ℕ)
       → left ≡ record_line next ++ more
-      → Allowed next → refusal f s (events_of f rs) next ≡ None → length (lines_of rs) + length (record_line next) ≤ s.limit → ⊥
+      → Allowed next → refusal f s (events_of f s rs) next ≡ None → length (lines_of rs) + length (record_line next) ≤ s.limit → ⊥
   not_before rs left (AtLine None) h next more e allowed taken within = h.2 next allowed (same_entry rs left h.0 h.1 next more allowed e)
   not_before rs left (AtLine (Some why)) h next more e allowed taken within =
       let same : h.2.0 ≡ next = record_of_line h.2.0 next (spelled h.2.0 h.2.2) (spelled next allowed) (sym h.2.1
       ∙ same_entry rs left h.0 h.1 next more allowed e) in
-      let both : Some why ≡ None = sym h.2.3 ∙ ap (λ entry. refusal f s (events_of f rs) entry) same ∙ taken in
+      let both : Some why ≡ None = sym h.2.3 ∙ ap (λ entry. refusal f s (events_of f s rs) entry) same ∙ taken in
       cc
   not_before rs left AtPart h next more e allowed taken within =
       no_end (join_with_byte 32 (record_words next)) more (ap has_newline (sym (line_parts next more)) ∙ ap has_newline (sym e) ∙ h.0)
@@ -195,9 +195,9 @@ module _ {M : Type 0} (f : Format M) (s : Settings) (Allowed : Record → Type 0
       ≡ length (join_with_byte 32 (record_words next)) + 1 = length-append (join_with_byte 32 (record_words next)) (10 ∷ []) in
       omega (arith, le, l, within, h.reaches)
 
-  place_is : (before : List (Event M)) (rs : List Record) → place f s Allowed before rs ≡ before ++ events_of f rs
+  place_is : (before : List (Event M)) (rs : List Record) → place f s Allowed before rs ≡ before ++ events_of f s rs
   place_is before [] = sym (append-nil before)
-  place_is before (r ∷ rs) = place_is (before ++ record_events f r) rs ∙ append_assoc before (record_events f r) (events_of f rs)
+  place_is before (r ∷ rs) = place_is (before ++ record_events f s r) rs ∙ append_assoc before (record_events f s r) (events_of f s rs)
 
   -- Two readings of one input are of the same records, or one goes on where the other ends.
   abbrev Fork : List (Event M) → List Record → List Record → List ℕ → List ℕ → Type 0
@@ -205,7 +205,7 @@ module _ {M : Type 0} (f : Format M) (s : Settings) (Allowed : Record → Type 0
       × (left ≡ other_left)) ⊎ GoesOn f s Allowed before rs left others ⊎ GoesOn f s Allowed before others other_left rs
 
   forked : (before : List (Event M)) (r other : Record) (rs others : List Record) (left other_left : List ℕ) → r ≡ other
-      → Fork (before ++ record_events f r) rs others left other_left → Fork before (r ∷ rs) (other ∷ others) left other_left
+      → Fork (before ++ record_events f s r) rs others left other_left → Fork before (r ∷ rs) (other ∷ others) left other_left
   forked before r other rs others left other_left first (inl same) = inl (ap (λ z. z ∷ rs) first ∙ ap (λ z. other ∷ z) same.0, same.1)
   forked before r other rs others left other_left first (inr (inl on)) =
       inr (inl (record {
@@ -225,7 +225,7 @@ module _ {M : Type 0} (f : Format M) (s : Settings) (Allowed : Record → Type 0
         is = ap (λ z. z ∷ rs) first ∙ ap (λ z. other ∷ z) on.is;
         spelled = on.spelled;
         allowed = on.allowed;
-        taken = ap (λ z. refusal f s (place f s Allowed (before ++ record_events f z) others) on.next) (sym first) ∙ on.taken;
+        taken = ap (λ z. refusal f s (place f s Allowed (before ++ record_events f s z) others) on.next) (sym first) ∙ on.taken;
       }))
 
   fork : (before : List (Event M)) (rs others : List Record) (left other_left : List ℕ) → AreTaken f s Allowed before rs
@@ -256,8 +256,8 @@ module _ {M : Type 0} (f : Format M) (s : Settings) (Allowed : Record → Type 0
       let one = one_front r other (lines_of rs ++ left) (lines_of others ++ other_left) (spelled r t.0) (spelled other u.0)
       (sym (append_assoc (record_line r) (lines_of rs) left) ∙ e ∙ append_assoc (record_line other) (lines_of others) other_left) in
       forked before r other rs others left other_left one.0
-      (fork (before ++ record_events f r) rs others left other_left t.2
-      (subst (λ (z : Record). AreTaken f s Allowed (before ++ record_events f z) others) (sym one.0) u.2) one.1)
+      (fork (before ++ record_events f s r) rs others left other_left t.2
+      (subst (λ (z : Record). AreTaken f s Allowed (before ++ record_events f s z) others) (sym one.0) u.2) one.1)
 
   -- No reading goes on where another ends.
   no_longer : (input : List ℕ) (rs others : List Record) (a b : Option RunFault) (h : Reading f s Allowed input rs a)

@@ -123,7 +123,7 @@ module _ {M : Type 0} (f : Format M) (s : Settings) (Allowed : Record → Type 0
   at_line input rs left h later e taken low = by (at_most s.limit (length (lines_of rs) + length h.line))
     where
       refused : BeginsLine f s Allowed rs left h.line → (r : Record) → Allowed r → h.line ++ 10 ∷ [] ≡ record_line r
-          → (o : Option Refusal) → refusal f s (events_of f rs) r ≡ o → HasOutcome f s Allowed input
+          → (o : Option Refusal) → refusal f s (events_of f s rs) r ≡ o → HasOutcome f s Allowed input
       refused begins r allowed is (Some why) cause =
           at_refused input rs left why e taken (record { entry = r; line = h.line; begins = begins; is = is; allowed = allowed; cause = cause })
       refused begins r allowed is None cause =
@@ -137,7 +137,7 @@ module _ {M : Type 0} (f : Format M) (s : Settings) (Allowed : Record → Type 0
 
       judged : BeginsLine f s Allowed rs left h.line
           → ((r : Record) × Allowed r × (h.line ++ 10 ∷ [] ≡ record_line r)) ⊎ IsNoRecord Allowed h.line → HasOutcome f s Allowed input
-      judged begins (inl k) = refused begins k.0 k.1 k.2 (refusal f s (events_of f rs) k.0) refl
+      judged begins (inl k) = refused begins k.0 k.1 k.2 (refusal f s (events_of f s rs) k.0) refl
       judged begins (inr none) = (
         rs,
         inr (

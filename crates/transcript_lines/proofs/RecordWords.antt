@@ -1,5 +1,5 @@
 -- What the words of a record are, and what they are not.
-use Rattle.std.proofs.Common.{◌≡◌, ◌≢◌, ◌*◌, ◌<◌, ◌≤◌, ℕ, true, false, List, [], ◌∷◌, ◌++◌, map, length, flat_map, codes, Option, Some, None, refl, ◌∙◌, ap, arith}
+use Rattle.std.proofs.Common.{◌≡◌, ◌≢◌, ◌+◌, ◌*◌, ◌<◌, ◌≤◌, ℕ, true, false, List, [], ◌∷◌, ◌++◌, map, length, flat_map, codes, Option, Some, None, refl, ◌∙◌, ap, arith}
 use Rattle.std.specs.Fmt.{decimal}
 use Rattle.std.specs.Option.{MatchOption, is_some}
 use Rattle.std.specs.Borrow.{Bor}
@@ -8,17 +8,20 @@ use Rattle.session_model.specs.Transcript.{AreBytes, AreFrames, IsSpelled, recor
 use Rattle.session_model.specs.declared.address.SocketAddr.{SocketAddr}
 use Rattle.session_model.specs.declared.transcript.BatchFrame.{BatchFrame}
 use Rattle.session_model.specs.declared.transcript.Record.{Record}
-use Rattle.session_model.specs.declared.transcript.Record.TheVariants.{Recv, Overrun, Close, Batch}
+use Rattle.session_model.specs.declared.transcript.Record.TheVariants.{Recv, Overrun, Close, Batch, Resync, Block, Unblock, Lookup}
 use Rattle.transcript_lines.specs.declared.line.Kind.{Kind}
-use Rattle.transcript_lines.specs.declared.line.Kind.TheVariants.{Recv as ForRecv, Overrun as ForOverrun, Close as ForClose, Batch as ForBatch}
+use Rattle.transcript_lines.specs.declared.line.Kind.TheVariants.{Recv as ForRecv, Overrun as ForOverrun, Close as ForClose, Batch as ForBatch, Resync as ForResync, Block as ForBlock, Unblock as ForUnblock, Lookup as ForLookup}
 use Rattle.transcript_lines.specs.Line.{keyword}
 use Rattle.transcript_lines.proofs.HexDigits.{twice}
 
--- The first letter of the first word.
-abbrev pub initial : List (List ℕ) → ℕ
-initial [] = 0
-initial ([] ∷ words) = 0
-initial ((letter ∷ word) ∷ words) = letter
+-- The first and the third letter of the first word, as one number, which no two kinds of records share.
+abbrev pub tag : List (List ℕ) → ℕ
+tag ((first ∷ second ∷ third ∷ word) ∷ words) = first * 256 + third
+tag words = 0
+
+-- That number for the records of a kind.
+abbrev pub tag_of : Kind → ℕ
+tag_of kind = tag (keyword kind ∷ [])
 
 -- The first word is no keyword.
 pub no_kind : (words : List (List ℕ)) (first : List ℕ) (left : List (List ℕ)) → words ≡ first ∷ left → ((kind : Kind) → first ≢ keyword kind)
@@ -27,24 +30,24 @@ no_kind words first left is none (Recv a bytes) h e = let same : first ≡ keywo
 no_kind words first left is none Overrun h e = let same : first ≡ keyword ForOverrun = cc in none ForOverrun same
 no_kind words first left is none Close h e = let same : first ≡ keyword ForClose = cc in none ForClose same
 no_kind words first left is none (Batch a frames) h e = let same : first ≡ keyword ForBatch = cc in none ForBatch same
+no_kind words first left is none Resync h e = let same : first ≡ keyword ForResync = cc in none ForResync same
+no_kind words first left is none (Block n) h e = let same : first ≡ keyword ForBlock = cc in none ForBlock same
+no_kind words first left is none (Unblock n) h e = let same : first ≡ keyword ForUnblock = cc in none ForUnblock same
+no_kind words first left is none (Lookup a) h e = let same : first ≡ keyword ForLookup = cc in none ForLookup same
 
 -- A datagram's words, after its address.
 pub no_datagram : (words left : List (List ℕ)) (a : SocketAddr) → words ≡ decimal a.port ∷ decimal a.groups ∷ left
     → ((bytes : List ℕ) → AreBytes bytes → length bytes ≤ 65536 → left ≢ hex_word bytes ∷ []) → (r : Record) → IsSpelled r
     → codes "recv" ∷ words ≢ record_words r
 no_datagram words left a is none (Recv b bytes) h e = let same : left ≡ hex_word bytes ∷ [] = cc in none bytes h.1 h.2 same
-no_datagram words left a is none Overrun h e = let t : 114 ≡ 111 = ap initial e in omega (arith, t)
-no_datagram words left a is none Close h e = let t : 114 ≡ 99 = ap initial e in omega (arith, t)
-no_datagram words left a is none (Batch b frames) h e = let t : 114 ≡ 98 = ap initial e in omega (arith, t)
+no_datagram words left a is none r h e = let t : tag_of ForRecv ≡ tag (record_words r) = ap tag e in omega (arith, t)
 
 -- A batch's words, after its address.
 pub no_batch : (words left : List (List ℕ)) (a : SocketAddr) → words ≡ decimal a.port ∷ decimal a.groups ∷ left
     → ((frames : List BatchFrame) → AreFrames AreBytes frames → left ≢ map frame_word frames) → (r : Record) → IsSpelled r
     → codes "batch" ∷ words ≢ record_words r
-no_batch words left a is none (Recv b bytes) h e = let t : 98 ≡ 114 = ap initial e in omega (arith, t)
-no_batch words left a is none Overrun h e = let t : 98 ≡ 111 = ap initial e in omega (arith, t)
-no_batch words left a is none Close h e = let t : 98 ≡ 99 = ap initial e in omega (arith, t)
 no_batch words left a is none (Batch b frames) h e = let same : left ≡ map frame_word frames = cc in none frames h.1 same
+no_batch words left a is none r h e = let t : tag_of ForBatch ≡ tag (record_words r) = ap tag e in omega (arith, t)
 
 -- A word that spells no frame stands in no batch.
 pub no_frames : (before : List BatchFrame) (word : List ℕ) (left : List (List ℕ))

@@ -7,7 +7,7 @@ use Rattle.session_model.specs.declared.transcript.Mark.{Mark}
 use Rattle.session_model.specs.declared.transcript.BatchFrame.{BatchFrame}
 use Rattle.session_model.specs.declared.transcript.Record.{Record}
 use Rattle.transcript_lines.specs.declared.line.Kind.{Kind}
-use Rattle.transcript_lines.specs.declared.line.Kind.TheVariants.{Recv as ForRecv, Overrun as ForOverrun, Close as ForClose, Batch as ForBatch}
+use Rattle.transcript_lines.specs.declared.line.Kind.TheVariants.{Recv as ForRecv, Overrun as ForOverrun, Close as ForClose, Batch as ForBatch, Resync as ForResync, Block as ForBlock, Unblock as ForUnblock, Lookup as ForLookup}
 
 -- Records that have one line are one record.
 abbrev pub SpellingIsInjective : Type 0
@@ -40,6 +40,10 @@ keyword ForRecv = codes "recv"
 keyword ForOverrun = codes "overrun"
 keyword ForClose = codes "close"
 keyword ForBatch = codes "batch"
+keyword ForResync = codes "resync"
+keyword ForBlock = codes "block"
+keyword ForUnblock = codes "unblock"
+keyword ForLookup = codes "lookup"
 
 -- This is the kind whose first word this is, and None where no kind has it.
 abbrev pub IsKindOf : List ℕ → Option Kind → Type 0

@@ -6,6 +6,7 @@
 mod bytes;
 mod laws;
 mod line;
+mod network;
 mod number;
 mod record;
 mod session_text;

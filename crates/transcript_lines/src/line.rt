@@ -7,6 +7,7 @@ ghost use Rattle.session_model.specs.Transcript.{IsSpelled, record_line};
 ghost use Rattle.session_model.specs.Causes.{IsNoRecord};
 
 use crate::bytes::read_bytes;
+use crate::network::{read_host, read_network};
 use crate::number::read_number;
 use crate::words::Words;
 use nl_core::{Items, NoMemory};
@@ -23,6 +24,10 @@ pub(crate) enum Kind {
     Overrun,
     Close,
     Batch,
+    Resync,
+    Block,
+    Unblock,
+    Lookup,
 }
 
 fn kind_of(word: &[u8]) -> Option<Kind>
@@ -33,6 +38,10 @@ fn kind_of(word: &[u8]) -> Option<Kind>
         b"overrun" => Some(Kind::Overrun),
         b"close" => Some(Kind::Close),
         b"batch" => Some(Kind::Batch),
+        b"resync" => Some(Kind::Resync),
+        b"block" => Some(Kind::Block),
+        b"unblock" => Some(Kind::Unblock),
+        b"lookup" => Some(Kind::Lookup),
         _ => None,
     }
 }
@@ -127,6 +136,10 @@ fn record_of_words(alloc: Global, words: Words) -> Result<Option<Record>, NoMemo
         Some(Kind::Overrun) => Ok(words.next().is_none().then_some(Record::Overrun)),
         Some(Kind::Close) => Ok(words.next().is_none().then_some(Record::Close)),
         Some(Kind::Batch) => read_batch(alloc, words),
+        Some(Kind::Resync) => Ok(words.next().is_none().then_some(Record::Resync)),
+        Some(Kind::Block) => Ok(read_network(alloc, words)?.map(Record::Block)),
+        Some(Kind::Unblock) => Ok(read_network(alloc, words)?.map(Record::Unblock)),
+        Some(Kind::Lookup) => Ok(read_host(alloc, words)?.map(Record::Lookup)),
         None => Ok(None),
     }
 }

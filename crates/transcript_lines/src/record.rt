@@ -47,7 +47,13 @@ fn has_whole_frames<T: NetlinkDeserializable + Drop>(
 {
     match entry {
         Record::Batch { frames, .. } => are_whole_frames::<T>(alloc, frames.as_slice()),
-        Record::Recv { .. } | Record::Overrun | Record::Close => Ok(true),
+        Record::Recv { .. }
+        | Record::Overrun
+        | Record::Close
+        | Record::Resync
+        | Record::Block(_)
+        | Record::Unblock(_)
+        | Record::Lookup(_) => Ok(true),
     }
 }
 

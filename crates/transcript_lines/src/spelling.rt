@@ -7,12 +7,14 @@ ghost use Rattle.transcript_lines.specs.Spelling.{spelled};
 use itoa::Buffer;
 use nl_core::NoMemory;
 
-/// One word of a line: a text as it stands, a number in decimal, or bytes in lower-case hex.
+/// One word of a line: a text as it stands, a number in decimal, bytes in lower-case hex, or a network: its octets in
+/// lower-case hex, a slash and its length in decimal.
 #[derive(Clone, Copy)]
 pub enum Word<'a> {
     Plain(&'a [u8]),
     Number(u64),
     Hex(&'a [u8]),
+    Prefix { octets: &'a [u8], length: u8 },
 }
 
 // Adds a number in decimal.
@@ -61,6 +63,11 @@ fn put_word(text: &mut Vec<u8>, word: Word<'_>) -> Result<(), NoMemory>
         }
         Word::Number(number) => put_number(text, number),
         Word::Hex(bytes) => put_hex(text, bytes),
+        Word::Prefix { octets, length } => {
+            put_hex(text, octets)?;
+            text.push(b'/')?;
+            put_number(text, u64::from(length))
+        }
     }
 }
 

@@ -6,7 +6,7 @@ use super::{
 };
 use nl_core::{Items, NetlinkHeader, NetlinkMessage, NetlinkPayload, NoMemory, Octets, RawMessage};
 use proto_core::{Incoming, Outgoing, Response};
-use session_model::{BatchFrame, Mark, Record, Settings, SocketAddr};
+use session_model::{Address, BatchFrame, Mark, Network, Record, Settings, SocketAddr};
 use std::alloc::Global;
 use std::test::Fail;
 
@@ -17,9 +17,13 @@ enum Expected {
     Overrun,
     Close,
     Batch(u32, u32, &'static [(Mark, &'static [u8])]),
+    Resync,
+    Block(Network),
+    Unblock(Network),
+    Lookup(Address),
 }
 
-use Expected::{Batch, Close, Nothing, Overrun, Recv};
+use Expected::{Batch, Block, Close, Lookup, Nothing, Overrun, Recv, Resync, Unblock};
 
 fn octets(alloc: Global, bytes: &[u8]) -> Result<Octets, NoMemory> {
     Ok(Octets::from_vec(bytes.to_vec(alloc)?))
@@ -48,10 +52,14 @@ fn record(alloc: Global, expected: Expected) -> Result<Option<Record>, NoMemory>
         Overrun => Ok(Some(Record::Overrun)),
         Close => Ok(Some(Record::Close)),
         Batch(port, groups, words) => Ok(Some(batch(alloc, SocketAddr { port, groups }, words)?)),
+        Resync => Ok(Some(Record::Resync)),
+        Block(network) => Ok(Some(Record::Block(network))),
+        Unblock(network) => Ok(Some(Record::Unblock(network))),
+        Lookup(address) => Ok(Some(Record::Lookup(address))),
     }
 }
 
-static LINES: [(&[u8], Expected); 44] = [
+static LINES: [(&[u8], Expected); 66] = [
     (b"overrun", Overrun),
     (b"close", Close),
     (b"recv 0 0 -", Recv(0, 0, b"")),
@@ -78,6 +86,29 @@ static LINES: [(&[u8], Expected); 44] = [
                 (Mark::ByFlags, b"\x03\x04"),
             ],
         ),
+    ),
+    (b"resync", Resync),
+    (
+        b"block 4 0a010000/16",
+        Block(Network::V4((0x0a01_0000, 16))),
+    ),
+    (
+        b"block 4 0a01ffff/16",
+        Block(Network::V4((0x0a01_ffff, 16))),
+    ),
+    (
+        b"block 6 20010db8000000000000000000000000/32",
+        Block(Network::V6((0x2001_0db8_0000_0000_0000_0000_0000_0000, 32))),
+    ),
+    (b"unblock 4 00000000/0", Unblock(Network::V4((0, 0)))),
+    (
+        b"unblock 6 ffffffffffffffffffffffffffffffff/128",
+        Unblock(Network::V6((u128::MAX, 128))),
+    ),
+    (b"lookup 4 0a000001", Lookup(Address::V4(0x0a00_0001))),
+    (
+        b"lookup 6 20010db8000000000000000000000001",
+        Lookup(Address::V6(0x2001_0db8_0000_0000_0000_0000_0000_0001)),
     ),
     (b"", Nothing),
     (b" ", Nothing),
@@ -113,6 +144,20 @@ static LINES: [(&[u8], Expected); 44] = [
     (b"batch 0 0 f:00  f:00", Nothing),
     (b"batch 0 0 f00", Nothing),
     (b"batch 0 0 a:00", Nothing),
+    (b"resync ", Nothing),
+    (b"resync 0", Nothing),
+    (b"block 4 0a010000/33", Nothing),
+    (b"block 6 20010db8000000000000000000000000/129", Nothing),
+    (b"block 4 0a010000/016", Nothing),
+    (b"block 4 0a0100/16", Nothing),
+    (b"block 5 0a010000/16", Nothing),
+    (b"block 4 0A010000/16", Nothing),
+    (b"block 4 0a010000", Nothing),
+    (b"block 4 0a010000/16 ", Nothing),
+    (b"lookup 4 0a00000", Nothing),
+    (b"lookup 4 0a0000010", Nothing),
+    (b"lookup 6 0a000001", Nothing),
+    (b"lookup 4 -", Nothing),
 ];
 
 #[test]
@@ -208,7 +253,7 @@ const WRITTEN: &[u8] = b"unsol 3 0 64 24 2 9 5 c0de
 reply 4 2 24 2 9 5 c0de
 sent 1 0 12000000180002000900000005000000c0de
 closed 7
-ok yes 10 ff00 -
+ok yes 10 ff00 - 0a010000/16
 ";
 
 // One line of each kind. A reply that is kept back and a datagram of no messages have none.
@@ -249,6 +294,10 @@ fn writes_lines(rt: HostRuntime) -> Result<(), Fail> {
         Word::Number(10),
         Word::Hex(b"\xff\x00"),
         Word::Hex(b""),
+        Word::Prefix {
+            octets: b"\x0a\x01\x00\x00",
+            length: 16,
+        },
     ];
     put_line(&mut text, b"ok", &words)?;
     assert_eq!(rt; text.as_slice(), WRITTEN);

@@ -1,4 +1,4 @@
-// Addresses and networks of both families.
+//! Addresses and networks of both families.
 
 /// An address. Its number is its octets, highest first.
 #[derive(Clone, Copy, Debug, PartialEq, Eq)]
