@@ -1,0 +1,5 @@
+pub mod Values
+pub mod Dumps
+pub mod Mirrors
+pub mod Requests
+pub mod Watching

@@ -1,0 +1,9 @@
+pub mod Numbers
+pub mod Attributes
+pub mod Entries
+pub mod Networks
+pub mod Families
+pub mod Tables
+pub mod Best
+pub mod BestIn
+pub mod Lookup
