@@ -1,6 +1,6 @@
 -- A run over a source that tells its bytes answers what they ask for.
 use Rattle.std.proofs.Common.{◌≡◌, inl, inr, ℕ, List, [], ◌++◌, Option, Some, None, Result, Ok, Err, IfErr, refl, sym, ◌∙◌, ap, subst}
-use Rattle.std.specs.Prelude.{◌⊎◌, IfOk, OnOk, MatchResult}
+use Rattle.std.specs.Prelude.{◌⊎◌, IfOk, OnOk}
 use Rattle.std.specs.Io.KnownBytes.{IsAtEnd}
 use Rattle.std.proofs.lemmas.List.{append-nil}
 use Rattle.session_model.specs.declared.settings.Settings.{Settings}

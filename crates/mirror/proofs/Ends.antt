@@ -19,7 +19,7 @@ use Rattle.mirror.specs.Format.{IsEntry, format}
 use Rattle.mirror.specs.Faults.{IsInputFault, IsOutputFault}
 use Rattle.mirror.specs.Feeding.{CountsFitInput, FedPiece, HaltedBy, HaltsBy, HasRead, KeepsInput}
 use Rattle.mirror.specs.Outcome.{Running, HasWritten, EndsBy, Ended, WasRun}
-use Rattle.mirror.specs.Runner.{Tracks, CountsInRange, AreAllTaken, drop_count, line_count, message_count, text_of}
+use Rattle.mirror.specs.Runner.{Tracks, CountsInRange, AreAllTaken, drop_count, is_in_step_after, line_count, message_count, text_of}
 
 -- ---- going on
 
@@ -260,7 +260,7 @@ ended_unfinished s l0 l1 w0 w1 w2 p at h none all some a =
 -- A run is done at the end of its input.
 pub was_run : (s : Settings) (l0 l1 w0 w1 w2 : Option (List ℕ)) (p : RunState) (report : Report)
     → Running s (between l0 l1 w0 w1) p → w2 ≡ with_back w1 p.text.items → length p.line.items ≡ 0
-    → ((s : Settings) (rs : List Record) → Tracks s rs p.runner → report ≡ report_of format s rs)
+    → ((s : Settings) (rs : List Record) → Tracks s rs p.runner → report ≡ report_of format s (is_in_step_after s rs) rs)
     → WasRun s (between l0 l1 w0 w2) report
 was_run s l0 l1 w0 w1 w2 p report h all none told =
     let k = h.reached in
@@ -295,7 +295,7 @@ was_run_for q s l0 l1 w0 w1 report same h = subst (λ z. WasRun z (between l0 l1
 
 -- A report of a runner is that of one that is the same.
 pub told_for : (p q : Runner) (report : Report) → q ≡ p
-    → ((s : Settings) (rs : List Record) → Tracks s rs q → report ≡ report_of format s rs)
-    → (s : Settings) (rs : List Record) → Tracks s rs p → report ≡ report_of format s rs
+    → ((s : Settings) (rs : List Record) → Tracks s rs q → report ≡ report_of format s (is_in_step_after s rs) rs)
+    → (s : Settings) (rs : List Record) → Tracks s rs p → report ≡ report_of format s (is_in_step_after s rs) rs
 told_for p q report same told =
-    subst (λ r. (s : Settings) (rs : List Record) → Tracks s rs r → report ≡ report_of format s rs) same told
+    subst (λ r. (s : Settings) (rs : List Record) → Tracks s rs r → report ≡ report_of format s (is_in_step_after s rs) rs) same told

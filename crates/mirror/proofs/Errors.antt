@@ -1,13 +1,18 @@
 -- Errors that leave a function by `?`.
-use Rattle.std.proofs.Common.{◌≡◌, Result, Ok, Err, IfErr, sym, subst}
-use Rattle.std.specs.Result.{IsErrAnd, OnOk}
+use Rattle.std.proofs.Common.{◌≡◌, Result, Ok, Err, IfErr, sym, ◌∙◌, subst}
+use Rattle.std.specs.Result.{IsErrAnd}
 
 -- What holds of one error holds where the error is this one.
 pub err_from : {X E : Type 0} (r : Result X E) (e0 : E) (P : E → Type 0) → IsErrAnd r (λ e. e ≡ e0) → P e0 → IfErr r P
 err_from (Ok x) e0 P h p = tt
 err_from (Err e) e0 P h p = subst P (sym h) p
 
--- What two clauses say together of an Ok.
-pub on_ok : {X E : Type 0} (r : Result X E) (A B C : Type 0) → OnOk r A → OnOk r B → (A → B → C) → OnOk r C
-on_ok (Ok x) A B C a b f = f a b
-on_ok (Err e) A B C a b f = tt
+-- An error that leaves a function is the one that it was.
+pub err_same : {X E : Type 0} (r : Result X E) (e0 e1 : E) → IsErrAnd r (λ e. e ≡ e0) → r ≡ Err e1 → e0 ≡ e1
+err_same (Ok x) e0 e1 h is = cc
+err_same (Err e) e0 e1 h is = let same : e ≡ e1 = cc in sym h ∙ same
+
+-- What holds of an error for one reason holds of it for another.
+pub err_map : {X E : Type 0} (r : Result X E) (P Q : E → Type 0) → IfErr r P → ((e : E) → P e → Q e) → IfErr r Q
+err_map (Ok x) P Q h f = tt
+err_map (Err e) P Q h f = f e h

@@ -7,17 +7,18 @@ use Rattle.std.proofs.lemmas.Bool.Decides.{nat_tests}
 use Rattle.session_model.specs.declared.settings.Settings.{Settings}
 use Rattle.session_model.specs.declared.transcript.Record.{Record}
 use Rattle.session_model.specs.Transcript.{record_line, lines_of}
-use Rattle.session_model.proofs.Places.{text_after-more}
+use Rattle.mirror_model.specs.Lookups.{lookup_at}
+use Rattle.mirror_model.proofs.OutputGrowth.{text_from-more}
 use Rattle.mirror.specs.declared.runner.Runner.{Runner}
 use Rattle.mirror.specs.Feeding.{Feeds, HasRead, newline}
 use Rattle.mirror.specs.Format.{format}
-use Rattle.mirror.specs.Runner.{Tracks, added_text, text_of}
+use Rattle.mirror.specs.Runner.{Tracks, added_text, readers, text_of}
 
 lines_more : (rs : List Record) (r : Record) → lines_of (rs ++ r ∷ []) ≡ lines_of rs ++ record_line r
 lines_more rs r = flat_map-append record_line rs (r ∷ []) ∙ ap (λ t. lines_of rs ++ t) (append-nil (record_line r))
 
 text_more : (s : Settings) (rs : List Record) (r : Record) → text_of s (rs ++ r ∷ []) ≡ text_of s rs ++ added_text s rs r
-text_more s rs r = text_after-more format s [] rs r
+text_more s rs r = text_from-more format s (lookup_at (readers s) s.start) [] rs r
 
 -- A byte that ends no line stands in the unfinished line.
 byte_more : (s : Settings) (bytes : List ℕ) (runner : Runner) (line text : List ℕ) (b : ℕ) → (b == 10) ≡ false

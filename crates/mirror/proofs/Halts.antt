@@ -1,5 +1,5 @@
 -- Where a run halts.
-use Rattle.std.proofs.Common.{◌≡◌, ◌≢◌, ◌+◌, ◌-◌, ◌<◌, inl, inr, ℕ, Option, Some, List, [], ◌∷◌, ◌++◌, length, take, drop, get_or, refl, sym, ◌∙◌, ap, subst, append_assoc, arith}
+use Rattle.std.proofs.Common.{◌≡◌, ◌≢◌, ◌+◌, ◌-◌, ◌<◌, inl, ℕ, Option, Some, List, [], ◌∷◌, ◌++◌, length, take, drop, get_or, refl, sym, ◌∙◌, ap, subst, append_assoc, arith}
 use Rattle.std.proofs.lemmas.List.{append-nil, length-append, drop_more, take_all, take-append-drop}
 use Rattle.std.proofs.Math.Seq.{take-append_seam}
 use Rattle.std.proofs.lemmas.Grind.{common_steps}
@@ -68,7 +68,7 @@ module _ (s : Settings) (bytes text line : List ℕ) (runner : Runner) (taken at
     stops = λ after. by after e fails other;
   }
     where
-      begins : (after : List ℕ) (why : Refusal) → refusal format s (events h.records) entry ≡ Some why
+      begins : (after : List ℕ) (why : Refusal) → refusal format s (events s h.records) entry ≡ Some why
           → BeginsRefused format s IsEntry h.records ((line ++ newline) ++ after) why
       begins after why c = record {
         entry = entry;

@@ -1,9 +1,12 @@
+pub mod Answers
 pub mod Cli
 pub mod Faults
 pub mod Feeding
 pub mod Format
+pub mod Ledger
+pub mod Observers
 pub mod Options
 pub mod Outcome
-pub mod RecordText
+pub mod Polled
 pub mod Refusals
 pub mod Runner

@@ -12,7 +12,7 @@ use Rattle.transcript_io.specs.Io.{with_front, with_back, Gained, Traffic}
 use Rattle.mirror.specs.declared.run_state.RunState.{RunState}
 use Rattle.mirror.specs.Format.{IsEntry, format}
 use Rattle.mirror.specs.Feeding.{HasRead}
-use Rattle.mirror.specs.Runner.{AreAllTaken, text_of}
+use Rattle.mirror.specs.Runner.{AreAllTaken, is_in_step_after, text_of}
 
 -- A run goes on: what it took of its source is lines and an unfinished line, and what the sink gained and what waits is
 -- their text.
@@ -70,7 +70,7 @@ pub record WasRun (s : Settings) (io : Traffic) (report : Report) : Type 0 where
   pub read : io.left_before ≡ with_front input io.left_after
   pub valid : IsValid format s IsEntry input records
   pub wrote : io.written_after ≡ with_back io.written_before (text_of s records)
-  pub reported : report ≡ report_of format s records
+  pub reported : report ≡ report_of format s (is_in_step_after s records) records
 
 -- A fault that no input asks for: the source or the sink failed and its count of faults rose, or memory ran out.
 abbrev pub IsNoCause : Type 0 → Type 0 → RunFault → Type 0

@@ -57,7 +57,7 @@ impl RunState {
         ensures counted { OnOk result (CountsInRange self.new.runner) }
         ensures lines { OnOk result (2 * self.new.runner.lines ≤ self.old.taken + 1) }
         ensures messages { OnOk result (2 * message_count self.new.runner ≤ self.old.taken + 1) }
-        ensures dropped { OnOk result (2 * self.new.runner.dropped ≤ self.old.taken + 1) }
+        ensures dropped { OnOk result (2 * drop_count self.new.runner ≤ self.old.taken + 1) }
         ensures line { OnOk result ((self.new.line.items ≡ []) × (vec_len self.new.line ≡ 0)) }
         ensures taken { self.new.taken ≡ self.old.taken }
         ensures settings { self.new.runner.settings ≡ self.old.runner.settings }

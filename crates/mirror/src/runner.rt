@@ -1,111 +1,46 @@
-//! A session run record by record.
-ghost use Rattle.std.specs.Prelude.{◌≡◌, ◌+◌, ◌<◌, ◌≤◌, ◌^◌, ◌∷◌, [], ◌++◌, ℕ, List, Err, IfOk, OnOk, IfErr, false, length};
-ghost use Rattle.std.specs.Bool.{OnFalse, OnTrue};
-ghost use Rattle.std.specs.BTreeSet.{IsOrdered};
-ghost use Rattle.std.specs.Ordering.{nat_cmp};
-ghost use Rattle.session_model.specs.Events.{is_awaited_by, overrun_arrival};
-ghost use Rattle.session_laws.specs.Requests.{marked, marks_in, messages_in};
+//! A session run record by record, over a connection.
+ghost use Rattle.std.specs.Prelude.{◌≡◌, ◌≤◌, ◌∷◌, [], ◌++◌, List, Err, IfOk, OnOk, IfErr, false, true};
 ghost use Rattle.transcript_io.specs.Io.{HasRisen, with_back};
 ghost use Rattle.mirror.specs.Format.{format};
 ghost use Rattle.mirror.specs.Faults.{IsStepFault};
 
-use crate::message::Message;
-use crate::open_streams::{close_all, open_stream};
+use crate::answers::put_answer;
+use crate::exchange::{arrive, send_batch, send_resync};
+use crate::handed::{put_replies, put_sent, put_unsolicited};
+use crate::ledger::Ledger;
+use crate::message::{Message, RouteConnection};
+use crate::observers::Observers;
 use crate::output::write_text;
-use crate::queues::{take_incoming, take_outgoing, take_response};
-use crate::record_text::RecordText;
 use crate::step_fault::StepFault;
-use bytes::BytesMut;
-use nl_core::{
-    Items, NLMSG_OVERRUN, NetlinkHeader, NetlinkMessage, NetlinkPayload, NoMemory, Octets,
-};
-use proto_core::{
-    Decoded, ExpectResponse, NetlinkCodec, NetlinkMessageCodec, Protocol, Request, read_frame,
-    wants_reply,
-};
-use session_model::{BatchFrame, Mark, Record, Report, RunFault, Settings, SocketAddr};
+use nl_core::NoMemory;
+use proto_conn::{Arrival, ConnectionHandle, TapeLink, Unsolicited, from_socket_at};
+use route_mirror::Mirror;
+use session_model::{Address, Network, Record, Report, RunFault, Settings};
 use std::alloc::Global;
-use std::collections::BTreeMap;
-use std::mem;
 use transcript_io::Sink;
+use trie_map::Steps;
 
 /// A session after the records that were taken so far.
 #[derive(Drop)]
 pub struct Runner {
     alloc: Global,
     pub(crate) settings: Settings,
-    session: Protocol<Message, u64>,
-    // How many numbers of each open stream are awaited.
-    open_streams: BTreeMap<u64, u64>,
-    streams: u64,
+    connection: RouteConnection,
+    handle: ConnectionHandle<Message>,
+    unsolicited: Unsolicited,
+    observers: Observers,
     lines: u64,
-    dropped: u64,
-    closed: bool,
-}
-
-// The message that an overrun of the link is.
-fn overrun(alloc: Global) -> NetlinkMessage<Message>
-    ensures { result ≡ overrun_arrival.message }
-{
-    let header = NetlinkHeader {
-        length: 16,
-        message_type: NLMSG_OVERRUN,
-        ..NetlinkHeader::default()
-    };
-    NetlinkMessage::new(header, NetlinkPayload::Overrun(Octets::new(alloc)))
-}
-
-// Whether a frame awaits a reply.
-fn is_awaited(mark: Mark, header: &NetlinkHeader) -> bool
-    ensures { result ≡ is_awaited_by mark header.now }
-{
-    match mark {
-        Mark::ByFlags => wants_reply(header),
-        Mark::Expected => true,
-        Mark::NotExpected => false,
-    }
-}
-
-// The messages of frames, and which of them await a reply.
-fn read_frames(
-    alloc: Global,
-    frames: &[BatchFrame],
-) -> Result<(Items<NetlinkMessage<Message>>, Items<bool>), NoMemory>
-    ensures messages { IfOk result (λ p. p.0 ≡ messages_in format frames.now) }
-    ensures marks { IfOk result (λ p. p.1 ≡ marks_in format frames.now) }
-{
-    let mut messages = Items::new(alloc);
-    let mut marks = Items::new(alloc);
-    for frame in frames {
-        if let Some(message) = read_frame(alloc, frame.bytes.as_slice())? {
-            marks.push(is_awaited(frame.mark, &message.header))?;
-            messages.push(message)?;
-        }
-    }
-    Ok((messages, marks))
-}
-
-// How many replies are awaited.
-fn count_awaited(marks: &[bool]) -> u64
-    ensures { result ≡ marked marks.now }
-{
-    let mut count = 0;
-    for mark in marks {
-        if *mark {
-            count += 1;
-        }
-    }
-    count
 }
 
 impl Runner {
     ghost use Rattle.session_model.specs.declared.settings.Settings.{Settings};
     ghost use Rattle.session_model.specs.declared.transcript.Record.{Record};
-    ghost use Rattle.session_model.specs.declared.transcript.Record.TheVariants.{Batch};
     ghost use Rattle.session_model.specs.Reported.{report_of};
     ghost use Rattle.mirror.specs.Format.{IsEntry};
-    ghost use Rattle.mirror.specs.RecordText.{HasNoText};
-    ghost use Rattle.mirror.specs.Runner.{AdvancesOver, AppliesRecord, CountsInRange, Fails, Grows, GrowsAtMost, HasNoCounts, HasSpace, HasSpaceFor, Keeps, OpensStream, ReceivesAll, ReceivesOne, RefusedBy, SendsBatch, TakesRecord, Tracks, added_text, weight};
+    ghost use Rattle.session_model.specs.Causes.{is_of_link};
+    ghost use Rattle.session_model.specs.Networks.{IsHost, IsNetwork};
+    ghost use Rattle.mirror.specs.Runner.{Brings, ConnectionStands, CountsInRange, Fails, Grows, HasNoCounts, HasSpace};
+    ghost use Rattle.mirror.specs.Runner.{MirrorStands, RefusedBy, Shows, TakesRecord, Tells, Tracks, added_text, is_in_step_after};
 
     /// No records so far.
     pub fn new(alloc: Global, settings: &Settings) -> Result<Runner, NoMemory>
@@ -113,164 +48,174 @@ impl Runner {
         ensures counted { IfOk result (λ r. CountsInRange r) }
         ensures none { IfOk result (λ r. HasNoCounts r) }
     {
+        let (mut connection, handle, unsolicited) = from_socket_at(
+            alloc,
+            TapeLink::new(alloc),
+            settings.start,
+        )?;
+        connection.set_forward_noop(settings.forward_noop);
+        connection.set_forward_done(settings.forward_done);
+        connection.set_forward_ack(settings.forward_ack);
         Ok(Runner {
             alloc,
             settings: *settings,
-            session: Protocol::with_start(alloc, settings.start),
-            open_streams: BTreeMap::new(alloc),
-            streams: 0,
+            connection,
+            handle,
+            unsolicited,
+            observers: Observers {
+                ledger: Ledger::new(alloc),
+                mirror: Mirror::new(alloc, settings.peer, settings.table)?,
+            },
             lines: 0,
-            dropped: 0,
-            closed: false,
         })
     }
 
-    // Takes in a message.
-    fn receive(
-        &mut self,
-        message: NetlinkMessage<Message>,
-        source: SocketAddr,
-        record_text: &mut RecordText,
-    ) -> Result<(), NoMemory>
-        requires { HasSpaceFor 1 self.old }
-        ensures settings { self.new.settings ≡ self.old.settings }
-        ensures keeps { OnOk result (Keeps self.old self.new) }
-        ensures counts { OnOk result (GrowsAtMost 1 self.old self.new) }
-        ensures step { OnOk result (ReceivesOne message source self.old record_text.old self.new record_text.new) }
+    /// The connection that the records go through. While no step has failed, its session has the last number, the count
+    /// of arrivals and the awaited numbers of the records taken, and its link counts as closed exactly where a close
+    /// record was taken.
+    pub fn connection(&self) -> &RouteConnection
+        ensures { (s : Settings) (rs : List Record) → Tracks s rs self.now → ConnectionStands s rs result.now }
     {
-        let alloc = self.alloc;
-        self.session.reserve(1)?;
-        self.session.handle_message(message, source);
-        take_incoming(alloc, &mut self.session, &mut record_text.text)?;
-        take_response(
-            alloc,
-            &self.settings,
-            &mut self.session,
-            &mut self.open_streams,
-            record_text,
-        )?;
-        Ok(())
+        &self.connection
     }
 
-    // Takes in what stands at the front of a datagram; whether there was anything.
-    fn receive_next(
-        &mut self,
-        source: SocketAddr,
-        reader: &mut BytesMut,
-        record_text: &mut RecordText,
-    ) -> Result<bool, NoMemory>
-        requires { HasSpaceFor (length reader.old.items) self.old }
-        ensures settings { self.new.settings ≡ self.old.settings }
-        ensures keeps { OnOk result (Keeps self.old self.new) }
-        ensures counts { OnOk result (GrowsAtMost 1 self.old self.new) }
-        ensures shorter { IfOk result
-            (λ more. OnTrue more (length reader.new.items < length reader.old.items)) }
-        ensures step { IfOk result (λ more. OnTrue more
-            (AdvancesOver source reader.old.items reader.new.items self.old record_text.old self.new record_text.new)) }
-        ensures end { IfOk result (λ more. OnFalse more
-            ((reader.old.items ≡ []) × (self.new ≡ self.old) × (record_text.new ≡ record_text.old))) }
+    /// The mirror of the peer's routes. While no step has failed, it stands for the state after the events of the records
+    /// taken.
+    pub fn mirror(&self) -> &Mirror
+        ensures { (s : Settings) (rs : List Record) → Tracks s rs self.now → MirrorStands s rs result.now }
     {
-        match NetlinkCodec::decode_next(self.alloc, reader)? {
-            Decoded::Message(message) => self.receive(message, source, record_text)?,
-            Decoded::Unreadable { .. } | Decoded::Rest { .. } => self.dropped += 1,
-            Decoded::Empty => return Ok(false),
-        }
-        Ok(true)
+        &self.observers.mirror
     }
 
-    // Takes in a datagram.
-    fn receive_datagram(
-        &mut self,
-        source: SocketAddr,
-        bytes: Octets,
-        record_text: &mut RecordText,
-    ) -> Result<(), NoMemory>
-        requires { HasSpaceFor (length bytes) self.old }
-        ensures settings { self.new.settings ≡ self.old.settings }
-        ensures keeps { OnOk result (Keeps self.old self.new) }
-        ensures counts { OnOk result (GrowsAtMost (length bytes) self.old self.new) }
-        ensures step { OnOk result (ReceivesAll source bytes self.old record_text.old self.new record_text.new) }
-    {
-        let mut reader = BytesMut::from(bytes.into_vec());
-        while self.receive_next(source, &mut reader, record_text)? {}
-        Ok(())
-    }
-
-    // Sends a batch.
-    fn send_batch(
-        &mut self,
-        to: SocketAddr,
-        frames: &[BatchFrame],
-        record_text: &mut RecordText,
-    ) -> Result<(), StepFault>
-        requires space { self.old.streams < 2 ^ 63 }
-        requires fresh { HasNoText record_text.old }
-        requires entry { IsEntry (Batch to frames.now) }
-        requires unshut { self.old.closed ≡ false }
-        ensures settings { self.new.settings ≡ self.old.settings }
-        ensures opens { OnOk result (OpensStream self.old self.new) }
-        ensures numbers { OnOk result (self.new.session.session.last < 2 ^ 32) }
-        ensures step { OnOk result (SendsBatch self.old to frames.now self.new record_text.new) }
-        ensures cause { IfErr result (RefusedBy self.old (Batch to frames.now)) }
-    {
-        let alloc = self.alloc;
-        let (messages, marks) = read_frames(alloc, frames)?;
-        let awaited = count_awaited(marks.as_slice());
-        let request = Request {
-            metadata: self.streams + 1,
-            messages,
-            destination: to,
-            expect_response: ExpectResponse::Explicit(marks),
-        };
-        match self.session.request(request) {
-            Ok(()) => {}
-            Err((refusal, _)) => return Err(StepFault::from(refusal)),
-        }
-        self.streams += 1;
-        take_outgoing(alloc, &mut self.session, &mut record_text.text)?;
-        open_stream(
-            &mut self.open_streams,
-            &mut record_text.closing,
-            self.streams,
-            awaited,
-        )?;
-        Ok(())
-    }
-
-    // Does what a record brings.
-    fn apply(&mut self, entry: Record, record_text: &mut RecordText) -> Result<(), StepFault>
+    // Does what a record of the link brings.
+    fn bring(&mut self, entry: Record) -> Result<(), StepFault>
         requires entry { IsEntry entry }
+        requires of_link { is_of_link entry ≡ true }
         requires counted { CountsInRange self.old }
-        requires fresh { HasNoText record_text.old }
         requires space { HasSpace self.old }
         ensures settings { self.new.settings ≡ self.old.settings }
-        ensures lines { OnOk result (self.new.lines ≡ self.old.lines) }
-        ensures streams { OnOk result (self.new.streams ≤ self.old.streams + 1) }
-        ensures numbers { OnOk result (self.new.session.session.last < 2 ^ 32) }
-        ensures counts { OnOk result (GrowsAtMost (weight entry) self.old self.new) }
-        ensures step { OnOk result (AppliesRecord self.old entry self.new record_text.new) }
+        ensures lines { self.new.lines ≡ self.old.lines }
+        ensures unshut { OnOk result (self.old.connection.closed ≡ false) }
+        ensures step { OnOk result (Brings self.old.settings entry
+            self.old.connection self.old.observers.ledger self.new.connection self.new.observers.ledger) }
+        ensures shown { OnOk result (Shows entry self.old.connection self.old.observers.mirror self.new.observers.mirror) }
         ensures cause { IfErr result (RefusedBy self.old entry) }
     {
-        if self.closed {
+        if self.connection.should_shut_down() {
             return Err(StepFault::Closed);
         }
-        match entry {
-            Record::Batch { to, frames } => self.send_batch(to, frames.as_slice(), record_text),
-            Record::Recv { source, bytes } => {
-                self.receive_datagram(source, bytes, record_text)?;
-                Ok(())
+        let arrival = match entry {
+            Record::Batch { to, frames } => {
+                return send_batch(
+                    self.alloc,
+                    &self.handle,
+                    &mut self.connection,
+                    &mut self.observers,
+                    to,
+                    frames.as_slice(),
+                );
             }
-            Record::Overrun => {
-                self.receive(overrun(self.alloc), SocketAddr::new(0, 0), record_text)?;
-                Ok(())
+            Record::Resync => {
+                return send_resync(&self.handle, &mut self.connection, &mut self.observers);
             }
             Record::Close => {
-                self.closed = true;
-                let open_streams = mem::replace(&mut self.open_streams, BTreeMap::new(self.alloc));
-                close_all(open_streams, &mut record_text.text)?;
-                Ok(())
+                arrive(&mut self.connection, &mut self.observers, Arrival::Closed)?;
+                self.observers.mirror.closed();
+                return Ok(());
             }
-        }
+            Record::Recv { source, bytes } => Arrival::Datagram { source, bytes },
+            Record::Overrun => Arrival::Overrun,
+            Record::Block(_) | Record::Unblock(_) | Record::Lookup(_) => unreachable!(),
+        };
+        arrive(&mut self.connection, &mut self.observers, arrival)?;
+        Ok(())
+    }
+
+    // The text of what the last record of the link brought.
+    fn tell(&mut self) -> Result<Vec<u8>, NoMemory>
+        requires { self.old.connection.requests_gone ≡ false }
+        ensures settings { self.new.settings ≡ self.old.settings }
+        ensures lines { self.new.lines ≡ self.old.lines }
+        ensures text { IfOk result (λ text. Tells self.old self.new text.items) }
+    {
+        let alloc = self.alloc;
+        let mut text = Vec::new(alloc);
+        put_sent(&mut self.connection, &mut text)?;
+        put_unsolicited(
+            alloc,
+            &mut self.unsolicited,
+            &mut self.connection,
+            &mut text,
+        )?;
+        put_replies(alloc, &self.settings, &mut self.connection, &mut text)?;
+        let shut = self.connection.should_shut_down();
+        self.observers.ledger.put_closing(alloc, shut, &mut text)?;
+        Ok(text)
+    }
+
+    // Takes a record of the link; its text.
+    fn take_exchange(&mut self, entry: Record) -> Result<Vec<u8>, StepFault>
+        requires entry { IsEntry entry }
+        requires of_link { is_of_link entry ≡ true }
+        requires counted { CountsInRange self.old }
+        requires space { HasSpace self.old }
+        ensures settings { self.new.settings ≡ self.old.settings }
+        ensures counted { OnOk result (CountsInRange self.new) }
+        ensures grows { OnOk result (Grows entry self.old self.new) }
+        ensures step { IfOk result (λ text. TakesRecord self.old entry self.new text.items) }
+        ensures cause { IfErr result (RefusedBy self.old entry) }
+    {
+        self.bring(entry)?;
+        self.lines += 1;
+        Ok(self.tell()?)
+    }
+
+    // Takes a record that blocks a network; it has no text.
+    fn take_block(&mut self, network: Network) -> Result<Vec<u8>, StepFault>
+        requires network { IsNetwork network }
+        requires counted { CountsInRange self.old }
+        requires space { HasSpace self.old }
+        ensures settings { self.new.settings ≡ self.old.settings }
+        ensures counted { OnOk result (CountsInRange self.new) }
+        ensures grows { OnOk result (Grows (Record.Block network) self.old self.new) }
+        ensures step { IfOk result (λ text. TakesRecord self.old (Record.Block network) self.new text.items) }
+        ensures cause { IfErr result (RefusedBy self.old (Record.Block network)) }
+    {
+        self.observers.mirror.block(network)?;
+        self.lines += 1;
+        Ok(Vec::new(self.alloc))
+    }
+
+    // Takes a record that unblocks a network; it has no text.
+    fn take_unblock(&mut self, network: Network) -> Vec<u8>
+        requires network { IsNetwork network }
+        requires counted { CountsInRange self.old }
+        requires space { HasSpace self.old }
+        ensures settings { self.new.settings ≡ self.old.settings }
+        ensures counted { CountsInRange self.new }
+        ensures grows { Grows (Record.Unblock network) self.old self.new }
+        ensures step { TakesRecord self.old (Record.Unblock network) self.new result.items }
+    {
+        self.observers.mirror.unblock(network);
+        self.lines += 1;
+        Vec::new(self.alloc)
+    }
+
+    // Takes a record that looks an address up; the line of its answer.
+    fn take_lookup(&mut self, address: Address) -> Result<Vec<u8>, NoMemory>
+        requires address { IsHost address }
+        requires counted { CountsInRange self.old }
+        requires space { HasSpace self.old }
+        ensures settings { self.new.settings ≡ self.old.settings }
+        ensures counted { OnOk result (CountsInRange self.new) }
+        ensures grows { OnOk result (Grows (Record.Lookup address) self.old self.new) }
+        ensures step { IfOk result (λ text. TakesRecord self.old (Record.Lookup address) self.new text.items) }
+    {
+        let answer = self.observers.mirror.lookup(address, &mut Steps::start());
+        let mut text = Vec::new(self.alloc);
+        put_answer(&mut text, address, &answer)?;
+        self.lines += 1;
+        Ok(text)
     }
 
     // Takes a record; its text.
@@ -284,10 +229,12 @@ impl Runner {
         ensures step { IfOk result (λ text. TakesRecord self.old entry self.new text.items) }
         ensures cause { IfErr result (RefusedBy self.old entry) }
     {
-        let mut record_text = RecordText::new(self.alloc);
-        self.apply(entry, &mut record_text)?;
-        self.lines += 1;
-        Ok(record_text.into_text()?)
+        match entry {
+            Record::Block(network) => self.take_block(network),
+            Record::Unblock(network) => Ok(self.take_unblock(network)),
+            Record::Lookup(address) => Ok(self.take_lookup(address)?),
+            entry => self.take_exchange(entry),
+        }
     }
 
     /// Takes a record and appends its text to a sink. Closed, SequenceExhausted and Unfit come exactly where the record
@@ -319,14 +266,15 @@ impl Runner {
 
     /// What there is to report of the records that were taken.
     pub fn report(&self) -> Report
-        ensures { (s : Settings) (rs : List Record) → Tracks s rs self.now → result ≡ report_of format s rs }
+        ensures { (s : Settings) (rs : List Record) → Tracks s rs self.now
+            → result ≡ report_of format s (is_in_step_after s rs) rs }
     {
         Report {
             lines: self.lines,
-            messages: self.session.arrivals(),
-            dropped: self.dropped,
-            still_open: self.open_streams.len() as u64,
-            in_step: false,
+            messages: self.connection.arrivals(),
+            dropped: self.observers.ledger.dropped,
+            still_open: self.observers.ledger.open_streams.len() as u64,
+            in_step: self.observers.mirror.in_step(),
         }
     }
 }

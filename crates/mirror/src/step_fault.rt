@@ -2,7 +2,6 @@
 ghost use Rattle.std.specs.Prelude.{◌≡◌};
 
 use nl_core::NoMemory;
-use proto_core::RequestRefusal;
 use session_model::RunFault;
 
 /// Why a record isn't taken.
@@ -21,20 +20,6 @@ impl From<NoMemory> for StepFault {
 
     fn from(_: NoMemory) -> Self {
         StepFault::NoMemory
-    }
-}
-
-impl From<RequestRefusal> for StepFault {
-    ghost use Rattle.mirror.specs.Refusals.{fault_of};
-
-    ghost from_gives = { λ refusal e. e ≡ fault_of refusal };
-
-    fn from(refusal: RequestRefusal) -> Self {
-        match refusal {
-            RequestRefusal::SequenceExhausted { .. } => StepFault::SequenceExhausted,
-            RequestRefusal::Unfit { .. } => StepFault::Unfit,
-            RequestRefusal::NoMemory => StepFault::NoMemory,
-        }
     }
 }
 

@@ -2,6 +2,7 @@
 ghost use Rattle.std.specs.Prelude.{◌≤◌};
 
 mod messages;
+mod routes;
 mod sessions;
 
 use self::sessions::check_row;
@@ -60,6 +61,7 @@ fn transcripts_are_run(rt: HostRuntime) -> Result<(), Fail> {
         &sessions::CLOSES,
         &sessions::BOUNDARIES,
         &messages::MESSAGES,
+        &routes::ROUTES,
     ];
     for rows in tables {
         for row in rows {

@@ -1,9 +1,15 @@
-use Rattle.std.proofs.Common.{◌≡◌, ◌-◌, Ok, Err, IfErr, length, refl, ap, ◌∙◌, arith}
-use Rattle.mirror.proofs.Errors.{err_from}
+use Rattle.std.proofs.Common.{◌≡◌, ◌-◌, Err, length, refl, ap, ◌∙◌, arith}
+use Rattle.mirror.proofs.Begins.{begins}
+use Rattle.mirror.proofs.Errors.{err_from, err_same}
 use Rattle.mirror.proofs.Ends.{ended_before, ended_writing, ended_flushed, ended_unfinished, was_run, was_ended, was_run_for, told_for}
 use Rattle.session_model.specs.declared.outcome.RunFault.TheVariants as run
 use Rattle.mirror.specs.declared.runner.Runner.{Runner}
 use Rattle.mirror.proofs.program.run_transcript.Goals as goal
+
+pub read_all-ended-requires-clause-begun : goal.read_all-ended-requires-clause-begun
+read_all-ended-requires-clause-begun g c =
+    let made = c.new-state.ensures in
+    begins c.args.settings.now _ _ c.new-state.result c.in_ok-runner.runner c.in_ok-runner.ensures.tracks made.runner made.line made.taken made.text
 
 pub returns-in_err-runner-clause-ended : goal.returns-in_err-runner-clause-ended
 returns-in_err-runner-clause-ended g c =
@@ -26,6 +32,11 @@ returns-in_err-ended-clause-ended g c =
     err_from c.from_residual-in_err-ended.result e.field-0.0 _ c.from_residual-in_err-ended.ensures.1
     (was_ended _ _ _ _ _ _ e.field-0.0 settings
     (ended_flushed _ _ _ _ _ _ r.new.self.text.items e.field-0.0 e.ensures.ended c.in_ok-flush.ensures.ok))
+
+pub returns-in_err-ended-clause-read_cause : goal.returns-in_err-ended-clause-read_cause
+returns-in_err-ended-clause-read_cause g c is =
+    c.in_err-ended.ensures.read_cause
+    (ap Err (err_same c.from_residual-in_err-ended.result c.in_err-ended.field-0.0 run.ReadFault c.from_residual-in_err-ended.ensures.1 is))
 
 pub returns-then-unfinished-gt0-clause-ended : goal.returns-then-unfinished-gt0-clause-ended
 returns-then-unfinished-gt0-clause-ended g c =

@@ -1,5 +1,5 @@
 use Rattle.std.proofs.Common.{◌∙◌}
-use Rattle.mirror.proofs.RecordLaws.{not_taken, not_written, refused_steps, writing_steps}
+use Rattle.mirror.proofs.Faulted.{not_taken, not_written, refused_steps, writing_steps}
 use Rattle.mirror.proofs.runner.Runner.step.Goals as goal
 
 pub returns-in-Ok-clause-fails : goal.returns-in-Ok-clause-fails
