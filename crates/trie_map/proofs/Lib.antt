@@ -1,2 +1,3 @@
+mod Skips
 mod Widths
 pub mod Lending

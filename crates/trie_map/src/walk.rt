@@ -1,8 +1,8 @@
 //! The walk over a view, which gives its pairs in the order of their prefixes.
 
-ghost use Rattle.std.specs.Prelude.{◌≡◌, ◌+◌, ◌*◌, ◌/◌, ◌<◌, ◌≤◌, ◌++◌, ◌∷◌, [], length, vec_capacity, IfNone, IfOk, IfSome, IsNone, IsOk, IsTrue, true, cond};
+ghost use Rattle.std.specs.Prelude.{◌≡◌, ◌+◌, ◌*◌, ◌/◌, ◌<◌, ◌≤◌, ◌++◌, ◌∷◌, [], length, vec_capacity, IfNone, IfOk, IfSome, IsNone, IsOk, IsTrue, false, true, cond};
 ghost use Rattle.std.specs.Result.{OnErr, OnOk};
-ghost use Rattle.trie_map.specs.Moves.{StepOf, StackMoves, StackLessens};
+ghost use Rattle.trie_map.specs.Moves.{IsSetAt, IsClearAt, PassesTo, StepOf, StackMoves, StackLessens};
 ghost use Rattle.trie_map.specs.Walking.{CanWalk, IsFrugalWalk, IsOver, NextOf, ToCome, StackOk, StackLeft, StackHasRoom, AreFrugal, stack_work, StackGains, StackIsFrom, WalksOn, TakesFirstOf, ComesFrom};
 ghost use Rattle.trie_model.specs.Spots.{next_spot};
 ghost use Rattle.trie_model.specs.Nets.{IsNet, covers, net_of};
@@ -15,15 +15,6 @@ use crate::prefix::{KeyBits, PlainPrefix, lies_in};
 use crate::view::TrieView;
 use nl_core::NoMemory;
 use std::alloc::Global;
-
-/// What stands at a spot. A spot is a data bit or a child of a node: the data bit b is the spot
-/// b + 1, the child c the spot 32 + c.
-#[derive(Drop)]
-enum Step<V, T> {
-    Nothing,
-    Item(u32, T),
-    Child(u32, V),
-}
 
 /// The spot after this one, or 64. What lies inside a prefix comes right after it.
 fn next_spot(spot: u32) -> u32
@@ -63,33 +54,41 @@ fn first_spot(spot: u32, inclusive: bool) -> u32
     if inclusive { spot } else { next_spot(spot) }
 }
 
-/// Takes what stands at the spot out of the view.
-fn take_at_spot<'a, V: TrieView<'a>, S>(
-    view: &mut V,
-    spot: u32,
-    steps: &mut Steps<S>,
-) -> Result<Step<V, V::T>, NoMemory>
-    requires usable { V.valid view.old }
+/// Whether something stands at a spot, by the bits that are left of a node. A spot is a data bit or a
+/// child: the data bit b is the spot b + 1, the child c the spot 32 + c.
+fn is_occupied(data_bits: u32, child_bits: u32, spot: u32) -> bool
     requires first { 1 ≤ spot }
     requires last { spot < 64 }
-    ensures step { IfOk result (λ s. StepOf V.valid V.told V.item V.P.Number.width spot view.old view.new s) }
-    ensures usable { OnOk result (V.valid view.new) }
-    ensures frugal { IsTrue (V.told view.old).frugal → IsOk result }
+    ensures set { result ≡ true → IsSetAt data_bits child_bits spot }
+    ensures clear { result ≡ false → IsClearAt data_bits child_bits spot }
 {
     if spot < 32 {
-        let bit = spot - 1;
-        if view.data_bitmap() >> bit & 1 == 0 {
-            return Ok(Step::Nothing);
+        data_bits >> (spot - 1) & 1 == 1
+    } else {
+        child_bits >> (spot - 32) & 1 == 1
+    }
+}
+
+/// The first spot from this one on where something stands, or 64.
+fn occupied_spot(data_bits: u32, child_bits: u32, spot: u32) -> u32
+    requires first { 1 ≤ spot }
+    requires last { spot ≤ 64 }
+    ensures first { 1 ≤ result }
+    ensures last { result ≤ 64 }
+    ensures passed { PassesTo data_bits child_bits spot result }
+    ensures set { result < 64 → IsSetAt data_bits child_bits result }
+{
+    if data_bits == 0 && child_bits == 0 {
+        return 64;
+    }
+    let mut at = spot;
+    'spots: while at < 64 {
+        if is_occupied(data_bits, child_bits, at) {
+            return at;
         }
-        let item = view.get_data(bit)?;
-        return Ok(Step::Item(bit, item));
+        at = next_spot(at);
     }
-    let bit = spot - 32;
-    if view.child_bitmap() >> bit & 1 == 0 {
-        return Ok(Step::Nothing);
-    }
-    let child = view.get_child(bit, steps)?;
-    Ok(Step::Child(bit, child))
+    64
 }
 
 /// A view of the stack, and the spot that the walk has come to in it.
@@ -97,6 +96,48 @@ fn take_at_spot<'a, V: TrieView<'a>, S>(
 struct Level<V> {
     view: V,
     spot: u32,
+}
+
+/// What a level has first: nothing any more, an item with its prefix, or a child.
+#[derive(Drop)]
+enum Step<P, T, V> {
+    Done,
+    Item(P, T),
+    Child(V),
+}
+
+/// Takes what a level has first, and goes on to the spot after it. Empty spots are passed here, while
+/// the view stays in its place on the stack.
+fn take_first<'a, V: TrieView<'a>, S>(
+    level: &mut Level<V>,
+    steps: &mut Steps<S>,
+) -> Result<Step<V::P, V::T, V>, NoMemory>
+    requires usable { V.valid level.old.view }
+    requires first { 1 ≤ level.old.spot }
+    requires last { level.old.spot ≤ 64 }
+    ensures step { IfOk result (StepOf V.valid V.told V.item V.P.net V.P.raw V.P.Number.width level.old level.new) }
+    ensures usable { OnOk result (V.valid level.new.view) }
+    ensures first { 1 ≤ level.new.spot }
+    ensures last { level.new.spot ≤ 64 }
+    ensures frugal { IsTrue (V.told level.old.view).frugal → IsOk result }
+{
+    let spot = occupied_spot(
+        level.view.data_bitmap(),
+        level.view.child_bitmap(),
+        level.spot,
+    );
+    if spot == 64 {
+        return Ok(Step::Done);
+    }
+    level.spot = next_spot(spot);
+    if spot < 32 {
+        let bit = spot - 1;
+        let prefix = reconstruct_prefix(level.view.depth(), level.view.key(), bit);
+        let item = level.view.get_data(bit)?;
+        return Ok(Step::Item(prefix, item));
+    }
+    let child = level.view.get_child(spot - 32, steps)?;
+    Ok(Step::Child(child))
 }
 
 /// One move of a walk.
@@ -116,7 +157,7 @@ fn push_level<V: Drop>(levels: &mut Vec<Level<V>>, level: Level<V>)
     let _pushed = levels.push(level);
 }
 
-/// Moves on by one spot, or leaves a view that is done.
+/// Takes what the last level has first, goes into its next child, or leaves it where it is done.
 fn advance<'a, V: TrieView<'a>, S>(
     levels: &mut Vec<Level<V>>,
     steps: &mut Steps<S>,
@@ -132,35 +173,17 @@ fn advance<'a, V: TrieView<'a>, S>(
     ensures less { IfOk result (StackLessens V.told V.P.Number.width levels.old levels.new) }
     ensures busy { OnErr result (0 < stack_work V.told V.P.Number.width levels.old) }
 {
-    let Some(mut level) = levels.pop() else {
+    let Some(level) = levels.last_mut() else {
         return Ok(Move::End);
     };
-    let spot = level.spot;
-    if spot == 64 {
-        return Ok(Move::On);
-    }
-    let depth = level.view.depth();
-    let key = level.view.key();
-    level.spot = next_spot(spot);
-    match take_at_spot(&mut level.view, spot, steps)? {
-        Step::Nothing => {
-            push_level(levels, level);
+    match take_first(level, steps)? {
+        Step::Done => {
+            let _done = levels.pop();
             Ok(Move::On)
         }
-        Step::Item(bit, item) => {
-            let prefix = reconstruct_prefix(depth, key, bit);
-            push_level(levels, level);
-            Ok(Move::Found(prefix, item))
-        }
-        Step::Child(_, child) => {
-            push_level(levels, level);
-            push_level(
-                levels,
-                Level {
-                    view: child,
-                    spot: 1,
-                },
-            );
+        Step::Item(prefix, item) => Ok(Move::Found(prefix, item)),
+        Step::Child(view) => {
+            push_level(levels, Level { view, spot: 1 });
             Ok(Move::On)
         }
     }
