@@ -9,6 +9,7 @@ pub mod OneMore
 pub mod Popped
 pub mod Counts
 pub mod Numbering
+pub mod Fits
 pub mod Sounds
 pub mod Enqueues
 pub mod Flushes

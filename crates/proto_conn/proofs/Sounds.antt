@@ -8,6 +8,7 @@ use Rattle.proto_conn.specs.declared.parts.Held.{Held}
 use Rattle.proto_conn.specs.declared.parts.Held.TheVariants as held
 use Rattle.proto_conn.specs.declared.tally.Tally.{Tally}
 use Rattle.proto_conn.specs.Conn.{IsHeld, IsSound, messages_in}
+use Rattle.proto_conn.specs.Fitting.{BatchesFit, RequestsFit}
 use Rattle.proto_conn.specs.Streaming.{marked_at}
 use Rattle.proto_conn.specs.Tallies.{AreNewest, IsTallied, Tallied, no_tally, tally_at}
 use Rattle.proto_conn.proofs.Counts.{tallied_handed, tallied_same}
@@ -26,17 +27,19 @@ tallied_fresh = record {
   answered = tt;
 }
 
-pub sound_fresh : {T : Type 0} (s : Session T ℕ) (q : List (Request T ℕ)) (start a b c d : ℕ) (reader : List ℕ) (marks : List Bool) (t : Tallied)
+pub sound_fresh : {T : Type 0} {text : T → List ℕ} {fits : T → Bool} (s : Session T ℕ) (q : List (Request T ℕ)) (start a b c d : ℕ) (reader : List ℕ) (marks : List Bool) (t : Tallied)
     → s ≡ fresh start → q ≡ [] → start < 2 ^ 32
-    → a ≡ 0 → c ≡ 0 → marks ≡ [] → t ≡ record { streams = []; handed = 0 } → IsSound s q 0 a b c d held.Nothing reader (length marks) t
-sound_fresh {T} s q start a b c d reader marks t is none small ea ec unmarked new =
-    subst (λ (x : Session T ℕ). IsSound x q 0 a b c d held.Nothing reader (length marks) t) (sym is)
-    (subst (λ (x : List (Request T ℕ)). IsSound (fresh start) x 0 a b c d held.Nothing reader (length marks) t) (sym none)
-    (subst (λ (x : List Bool). IsSound {T = T} (fresh start) [] 0 a b c d held.Nothing reader (length x) t) (sym unmarked)
-    (subst (λ (x : Tallied). IsSound {T = T} (fresh start) [] 0 a b c d held.Nothing reader 0 x) (sym new)
+    → a ≡ 0 → c ≡ 0 → marks ≡ [] → t ≡ record { streams = []; handed = 0 } → IsSound text fits s q 0 a b c d held.Nothing reader (length marks) t
+sound_fresh {T} {text} {fits} s q start a b c d reader marks t is none small ea ec unmarked new =
+    subst (λ (x : Session T ℕ). IsSound text fits x q 0 a b c d held.Nothing reader (length marks) t) (sym is)
+    (subst (λ (x : List (Request T ℕ)). IsSound text fits (fresh start) x 0 a b c d held.Nothing reader (length marks) t) (sym none)
+    (subst (λ (x : List Bool). IsSound text fits (fresh start) [] 0 a b c d held.Nothing reader (length x) t) (sym unmarked)
+    (subst (λ (x : Tallied). IsSound text fits (fresh start) [] 0 a b c d held.Nothing reader 0 x) (sym new)
     (record {
       counted = refl;
       numbers = omega (arith, small);
+      fit = tt;
+      batches = tt;
       replies = omega (arith, ea);
       unsolicited = omega
           (arith, ec);
@@ -47,17 +50,19 @@ sound_fresh {T} s q start a b c d reader marks t is none small ea ec unmarked ne
     }))))
 
 -- Once the replies are handed on.
-pub sound_forwarded : {T : Type 0} (s s2 : Session T ℕ) (q : List (Request T ℕ)) (count a b c d a2 b2 : ℕ) (h : Held) (reader : List ℕ)
+pub sound_forwarded : {T : Type 0} {text : T → List ℕ} {fits : T → Bool} (s s2 : Session T ℕ) (q : List (Request T ℕ)) (count a b c d a2 b2 : ℕ) (h : Held) (reader : List ℕ)
     (given : ℕ) (t t2 : Tallied) (n : ℕ)
-    → s2 ≡ record s { responses = [] } → n ≡ s2.arrived → t2 ≡ record t { handed = n } → a2 ≤ b2 → IsSound s q count a b c d h reader given t
-    → IsSound s2 q count a2 b2 c d h reader given t2
-sound_forwarded {T} s s2 q count a b c d a2 b2 h reader given t t2 n is arrived new room i =
+    → s2 ≡ record s { responses = [] } → n ≡ s2.arrived → t2 ≡ record t { handed = n } → a2 ≤ b2 → IsSound text fits s q count a b c d h reader given t
+    → IsSound text fits s2 q count a2 b2 c d h reader given t2
+sound_forwarded {T} {text} {fits} s s2 q count a b c d a2 b2 h reader given t t2 n is arrived new room i =
     let same : t2 ≡ record t { handed = s.arrived } = new ∙ ap (λ k. record t { handed = k }) (arrived ∙ ap (λ (x : Session T ℕ). x.arrived) is) in
-    subst (λ (x : Session T ℕ). IsSound x q count a2 b2 c d h reader given t2) (sym is)
-    (subst (λ (x : Tallied). IsSound (record s { responses = [] }) q count a2 b2 c d h reader given x) (sym same)
+    subst (λ (x : Session T ℕ). IsSound text fits x q count a2 b2 c d h reader given t2) (sym is)
+    (subst (λ (x : Tallied). IsSound text fits (record s { responses = [] }) q count a2 b2 c d h reader given x) (sym same)
     (record {
       counted = i.counted;
       numbers = i.numbers;
+      fit = i.fit;
+      batches = i.batches;
       replies = omega (arith, room);
       unsolicited = i.unsolicited;
       held = i.held;
@@ -67,14 +72,17 @@ sound_forwarded {T} s s2 q count a b c d a2 b2 h reader given t t2 n is arrived 
     }))
 
 -- Once requests are taken.
-pub sound_taken : {T : Type 0} (s s2 : Session T ℕ) (q q2 : List (Request T ℕ)) (count count2 a b c d : ℕ) (h : Held) (reader : List ℕ)
+pub sound_taken : {T : Type 0} {text : T → List ℕ} {fits : T → Bool} (s s2 : Session T ℕ) (q q2 : List (Request T ℕ)) (count count2 a b c d : ℕ) (h : Held) (reader : List ℕ)
     (given : ℕ) (t t2 : Tallied)
     → count2 ≡ messages_in q2 → s2.last + count2 ≡ s.last + count → s2.responses ≡ s.responses → s2.incoming ≡ s.incoming → length t2.streams ≡ length t.streams
-    → AreNewest (length t2.streams) q2 → IsTallied s2.awaited s2.responses s2.arrived t2 → IsSound s q count a b c d h reader given t
-    → IsSound s2 q2 count2 a b c d h reader given t2
-sound_taken s s2 q q2 count count2 a b c d h reader given t t2 counted last responses incoming len newest tallied i = record {
+    → RequestsFit text fits q2 → BatchesFit text fits s2.outgoing
+    → AreNewest (length t2.streams) q2 → IsTallied s2.awaited s2.responses s2.arrived t2 → IsSound text fits s q count a b c d h reader given t
+    → IsSound text fits s2 q2 count2 a b c d h reader given t2
+sound_taken s s2 q q2 count count2 a b c d h reader given t t2 counted last responses incoming len fit batches newest tallied i = record {
   counted = counted;
   numbers = let n = i.numbers in omega (arith, n, last);
+  fit = fit;
+  batches = batches;
   replies = subst (λ rs. length rs + a ≤ b) (sym responses) i.replies;
   unsolicited = subst (λ rs. length rs + c ≤ d) (sym incoming) i.unsolicited;
   held = i.held;
@@ -84,12 +92,15 @@ sound_taken s s2 q q2 count count2 a b c d h reader given t t2 counted last resp
 }
 
 -- Where a batch left the session.
-pub sound_sent : {T : Type 0} (s s2 : Session T ℕ) (q : List (Request T ℕ)) (count a b c d : ℕ) (h : Held) (reader reader2 : List ℕ) (given : ℕ) (t : Tallied)
+pub sound_sent : {T : Type 0} {text : T → List ℕ} {fits : T → Bool} (s s2 : Session T ℕ) (q : List (Request T ℕ)) (count a b c d : ℕ) (h : Held) (reader reader2 : List ℕ) (given : ℕ) (t : Tallied)
     → s2.last ≡ s.last → s2.responses ≡ s.responses → s2.incoming ≡ s.incoming → s2.awaited ≡ s.awaited → s2.arrived ≡ s.arrived → reader2 ≡ reader
-    → IsSound s q count a b c d h reader given t → IsSound s2 q count a b c d h reader2 given t
-sound_sent s s2 q count a b c d h reader reader2 given t last responses incoming awaited arrived same i = record {
+    → BatchesFit text fits s2.outgoing
+    → IsSound text fits s q count a b c d h reader given t → IsSound text fits s2 q count a b c d h reader2 given t
+sound_sent s s2 q count a b c d h reader reader2 given t last responses incoming awaited arrived same batches i = record {
   counted = i.counted;
   numbers = let n = i.numbers in omega (arith, n, last);
+  fit = i.fit;
+  batches = batches;
   replies = subst (λ rs. length rs + a ≤ b) (sym responses) i.replies;
   unsolicited = subst (λ rs. length rs + c ≤ d) (sym incoming) i.unsolicited;
   held = subst (λ r. IsHeld h r) (sym same) i.held;
@@ -99,13 +110,15 @@ sound_sent s s2 q count a b c d h reader reader2 given t last responses incoming
 }
 
 -- Where room was made, and what waits is held otherwise.
-pub sound_roomy : {T : Type 0} (s s2 : Session T ℕ) (q : List (Request T ℕ)) (count a b c d a2 b2 c2 d2 : ℕ) (h h2 : Held)
+pub sound_roomy : {T : Type 0} {text : T → List ℕ} {fits : T → Bool} (s s2 : Session T ℕ) (q : List (Request T ℕ)) (count a b c d a2 b2 c2 d2 : ℕ) (h h2 : Held)
     (reader reader2 : List ℕ) (given : ℕ) (t : Tallied)
     → s2 ≡ s → length s2.responses + a2 ≤ b2 → length s2.incoming + c2 ≤ d2 → IsHeld h2 reader2
-    → IsSound s q count a b c d h reader given t → IsSound s2 q count a2 b2 c2 d2 h2 reader2 given t
-sound_roomy {T} s s2 q count a b c d a2 b2 c2 d2 h h2 reader reader2 given t is replies unsolicited held i = record {
+    → IsSound text fits s q count a b c d h reader given t → IsSound text fits s2 q count a2 b2 c2 d2 h2 reader2 given t
+sound_roomy {T} {text} {fits} s s2 q count a b c d a2 b2 c2 d2 h h2 reader reader2 given t is replies unsolicited held i = record {
   counted = i.counted;
   numbers = let n = i.numbers in let e = ap (λ (x : Session T ℕ). x.last) is in omega (arith, n, e);
+  fit = i.fit;
+  batches = subst (λ (x : Session T ℕ). BatchesFit text fits x.outgoing) (sym is) i.batches;
   replies = replies;
   unsolicited = unsolicited;
   held = held;
@@ -115,15 +128,17 @@ sound_roomy {T} s s2 q count a b c d a2 b2 c2 d2 h h2 reader reader2 given t is 
 }
 
 -- Where a message was taken in, into room for one more.
-pub sound_more : {T : Type 0} (s s2 s3 : Session T ℕ) (q : List (Request T ℕ)) (count a b c d a2 b2 c2 d2 : ℕ) (h h2 : Held)
+pub sound_more : {T : Type 0} {text : T → List ℕ} {fits : T → Bool} (s s2 s3 : Session T ℕ) (q : List (Request T ℕ)) (count a b c d a2 b2 c2 d2 : ℕ) (h h2 : Held)
     (reader reader2 : List ℕ) (given : ℕ) (t t3 : Tallied) (n : ℕ)
     → s2 ≡ s → length s2.responses + n + a2 ≤ b2 → length s2.incoming + n + c2 ≤ d2 → IsHeld h2 reader2
-    → s3.last ≡ s2.last → length s3.responses ≤ length s2.responses + n → length s3.incoming ≤ length s2.incoming + n
+    → s3.last ≡ s2.last → length s3.responses ≤ length s2.responses + n → length s3.incoming ≤ length s2.incoming + n → s3.outgoing ≡ s2.outgoing
     → length t3.streams ≡ length t.streams → IsTallied s3.awaited s3.responses s3.arrived t3
-    → IsSound s q count a b c d h reader given t → IsSound s3 q count a2 b2 c2 d2 h2 reader2 given t3
-sound_more {T} s s2 s3 q count a b c d a2 b2 c2 d2 h h2 reader reader2 given t t3 n is room rest held last responses incoming len tallied i = record {
+    → IsSound text fits s q count a b c d h reader given t → IsSound text fits s3 q count a2 b2 c2 d2 h2 reader2 given t3
+sound_more {T} {text} {fits} s s2 s3 q count a b c d a2 b2 c2 d2 h h2 reader reader2 given t t3 n is room rest held last responses incoming outgoing len tallied i = record {
   counted = i.counted;
   numbers = let k = i.numbers in let e = ap (λ (x : Session T ℕ). x.last) is in omega (arith, k, e, last);
+  fit = i.fit;
+  batches = subst (λ os. BatchesFit text fits os) (sym (outgoing ∙ ap (λ (x : Session T ℕ). x.outgoing) is)) i.batches;
   replies = omega (arith, room, responses);
   unsolicited = omega (arith, rest, incoming);
   held = held;
@@ -137,12 +152,14 @@ pub fewer : {X D : Type 0} (len : D → ℕ) (o : Option X) (new old : D) → On
 fewer len (Some x) new old less same = omega (arith, less)
 fewer len None new old less same = let e = ap len same in omega (arith, e)
 
-pub sound_fewer : {T : Type 0} (s : Session T ℕ) (q : List (Request T ℕ)) (count a b c d a2 b2 : ℕ) (h : Held) (reader : List ℕ)
+pub sound_fewer : {T : Type 0} {text : T → List ℕ} {fits : T → Bool} (s : Session T ℕ) (q : List (Request T ℕ)) (count a b c d a2 b2 : ℕ) (h : Held) (reader : List ℕ)
     (given given2 : ℕ) (t : Tallied)
-    → a2 ≤ a → b2 ≡ b → given2 ≡ given → IsSound s q count a b c d h reader given t → IsSound s q count a2 b2 c d h reader given2 t
+    → a2 ≤ a → b2 ≡ b → given2 ≡ given → IsSound text fits s q count a b c d h reader given t → IsSound text fits s q count a2 b2 c d h reader given2 t
 sound_fewer s q count a b c d a2 b2 h reader given given2 t less same as_many i = record {
   counted = i.counted;
   numbers = i.numbers;
+  fit = i.fit;
+  batches = i.batches;
   replies = let r = i.replies in omega (arith, r, less, same);
   unsolicited = i.unsolicited;
   held = i.held;
@@ -152,14 +169,16 @@ sound_fewer s q count a b c d a2 b2 h reader given given2 t less same as_many i 
 }
 
 -- Once the messages that nothing awaited are handed on.
-pub sound_unsolicited : {T : Type 0} (s s2 : Session T ℕ) (q : List (Request T ℕ)) (count a b c d c2 d2 : ℕ) (h : Held) (reader : List ℕ)
+pub sound_unsolicited : {T : Type 0} {text : T → List ℕ} {fits : T → Bool} (s s2 : Session T ℕ) (q : List (Request T ℕ)) (count a b c d c2 d2 : ℕ) (h : Held) (reader : List ℕ)
     (given : ℕ) (t : Tallied)
-    → s2 ≡ record s { incoming = [] } → c2 ≤ d2 → IsSound s q count a b c d h reader given t → IsSound s2 q count a b c2 d2 h reader given t
-sound_unsolicited {T} s s2 q count a b c d c2 d2 h reader given t is room i =
-    subst (λ (x : Session T ℕ). IsSound x q count a b c2 d2 h reader given t) (sym is)
+    → s2 ≡ record s { incoming = [] } → c2 ≤ d2 → IsSound text fits s q count a b c d h reader given t → IsSound text fits s2 q count a b c2 d2 h reader given t
+sound_unsolicited {T} {text} {fits} s s2 q count a b c d c2 d2 h reader given t is room i =
+    subst (λ (x : Session T ℕ). IsSound text fits x q count a b c2 d2 h reader given t) (sym is)
     (record {
       counted = i.counted;
       numbers = i.numbers;
+      fit = i.fit;
+      batches = i.batches;
       replies = i.replies;
       unsolicited = omega
           (arith, room);
@@ -170,11 +189,13 @@ sound_unsolicited {T} s s2 q count a b c d c2 d2 h reader given t is room i =
     })
 
 -- Where what waits is held otherwise.
-pub sound_held : {T : Type 0} (s : Session T ℕ) (q : List (Request T ℕ)) (count a b c d : ℕ) (h h2 : Held) (reader reader2 : List ℕ) (given : ℕ) (t : Tallied)
-    → IsHeld h2 reader2 → IsSound s q count a b c d h reader given t → IsSound s q count a b c d h2 reader2 given t
+pub sound_held : {T : Type 0} {text : T → List ℕ} {fits : T → Bool} (s : Session T ℕ) (q : List (Request T ℕ)) (count a b c d : ℕ) (h h2 : Held) (reader reader2 : List ℕ) (given : ℕ) (t : Tallied)
+    → IsHeld h2 reader2 → IsSound text fits s q count a b c d h reader given t → IsSound text fits s q count a b c d h2 reader2 given t
 sound_held s q count a b c d h h2 reader reader2 given t held i = record {
   counted = i.counted;
   numbers = i.numbers;
+  fit = i.fit;
+  batches = i.batches;
   replies = i.replies;
   unsolicited = i.unsolicited;
   held = held;

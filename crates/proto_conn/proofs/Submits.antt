@@ -12,6 +12,7 @@ use Rattle.proto_core.specs.declared.request.Request.{Request}
 use Rattle.proto_conn.specs.declared.parts.Held.{Held}
 use Rattle.proto_conn.specs.declared.tally.Tally.{Tally}
 use Rattle.proto_conn.specs.Conn.{Conn, IsHeld, IsSound, next_request, refuses, waiting_in}
+use Rattle.proto_conn.specs.Fitting.{BatchesFit}
 use Rattle.proto_conn.specs.Flushing.{Flushed, FlushedIf, GoesOn, Loads, SendsNext, is_nothing, is_stuck}
 use Rattle.proto_conn.specs.Handles.{marks_of, messages_of}
 use Rattle.proto_conn.specs.Links.{Meaning, with_back}
@@ -47,15 +48,15 @@ dropped_again t t1 t2 more less =
     ∙ ap (λ (xs : List Tally). record t { streams = xs }) (take-append_seam t.streams (no_tally ∷ []))
 
 -- A connection whose parts stay as they are stays sound.
-pub sound_back : {T : Type 0} (s s2 : Session T ℕ) (q : List (Request T ℕ)) (count a b c d : ℕ) (h : Held) (reader reader2 : List ℕ)
+pub sound_back : {T : Type 0} {text : T → List ℕ} {fits : T → Bool} (s s2 : Session T ℕ) (q : List (Request T ℕ)) (count a b c d : ℕ) (h : Held) (reader reader2 : List ℕ)
     (given given2 : ℕ) (t t2 : Tallied)
-    → s2 ≡ s → reader2 ≡ reader → given2 ≡ given → t2 ≡ t → IsSound s q count a b c d h reader given t
-    → IsSound s2 q count a b c d h reader2 given2 t2
-sound_back {T} s s2 q count a b c d h reader reader2 given given2 t t2 es er eg et i =
-    subst (λ (x : Session T ℕ). IsSound x q count a b c d h reader2 given2 t2) (sym es)
-    (subst (λ x. IsSound s q count a b c d h x given2 t2) (sym er)
-    (subst (λ x. IsSound s q count a b c d h reader x t2) (sym eg)
-    (subst (λ (x : Tallied). IsSound s q count a b c d h reader given x) (sym et) i)))
+    → s2 ≡ s → reader2 ≡ reader → given2 ≡ given → t2 ≡ t → IsSound text fits s q count a b c d h reader given t
+    → IsSound text fits s2 q count a b c d h reader2 given2 t2
+sound_back {T} {text} {fits} s s2 q count a b c d h reader reader2 given given2 t t2 es er eg et i =
+    subst (λ (x : Session T ℕ). IsSound text fits x q count a b c d h reader2 given2 t2) (sym es)
+    (subst (λ x. IsSound text fits s q count a b c d h x given2 t2) (sym er)
+    (subst (λ x. IsSound text fits s q count a b c d h reader x t2) (sym eg)
+    (subst (λ (x : Tallied). IsSound text fits s q count a b c d h reader given x) (sym et) i)))
 
 -- ---- a request that is taken
 
@@ -97,14 +98,14 @@ module _ {T S : Type 0} (meaning : S → Meaning) (kind : T → ℕ) (text : T �
         (b ∙ ap (λ (x : Session T ℕ). length x.awaited) kept_taken)
 
 -- A connection that has taken a request of the next stream is sound, where no request waits.
-pub sound_submitted : {T : Type 0} (kind : T → ℕ) (text : T → List ℕ) (s s2 : Session T ℕ) (q : List (Request T ℕ)) (r : Request T ℕ)
+pub sound_submitted : {T : Type 0} (kind : T → ℕ) (text : T → List ℕ) {fits : T → Bool} (s s2 : Session T ℕ) (q : List (Request T ℕ)) (r : Request T ℕ)
     (count a b c d : ℕ) (h : Held) (reader reader2 : List ℕ) (given given2 : ℕ) (t t1 t2 : Tallied) (n before after : ℕ)
     → s2 ≡ record (requested kind text s r) { outgoing = s2.outgoing } → reader2 ≡ reader → given2 ≡ given + 1 → r.metadata ≡ given + 1 → q ≡ []
     → t1 ≡ record t { streams = t.streams ++ no_tally ∷ [] } → t2 ≡ with_request r.metadata n t1
     → (s.last + count) + length r.messages < 2 ^ 32 → before ≡ length s.awaited → after ≡ length s2.awaited → n ≡ after - before
-    → IsSound s q count a b c d h reader given t → IsSound s2 q count a b c d h reader2 given2 t2
-sound_submitted {T} kind text s s2 q r count a b c d h reader reader2 given given2 t t1 t2 n before after is same one next none more noted room
-    ea eb en i =
+    → BatchesFit text fits s2.outgoing → IsSound text fits s q count a b c d h reader given t → IsSound text fits s2 q count a b c d h reader2 given2 t2
+sound_submitted {T} kind text {fits} s s2 q r count a b c d h reader reader2 given given2 t t1 t2 n before after is same one next none more noted room
+    ea eb en batches i =
     let len : length t1.streams ≡ given + 1 =
     let e = ap (λ (x : Tallied). length x.streams) more in
     let l = length-append t.streams (no_tally ∷ []) in
@@ -113,6 +114,8 @@ sound_submitted {T} kind text s s2 q r count a b c d h reader reader2 given give
     record {
       counted = i.counted;
       numbers = let e = ap (λ (x : Session T ℕ). x.last) is in omega (arith, room, e);
+      fit = i.fit;
+      batches = batches;
       replies = subst (λ rs. length rs + a ≤ b) (sym (ap (λ (x : Session T ℕ). x.responses) is)) i.replies;
       unsolicited = subst (λ rs. length rs + c ≤ d) (sym (ap (λ (x : Session T ℕ). x.incoming) is)) i.unsolicited;
       held = subst (λ x. IsHeld h x) (sym same) i.held;

@@ -18,6 +18,7 @@ use Rattle.proto_conn.specs.declared.parts.Forward.{Forward}
 use Rattle.proto_conn.specs.declared.parts.Held.{Held}
 use Rattle.proto_conn.specs.declared.parts.Held.TheVariants as held
 use Rattle.proto_conn.specs.declared.parts.Reply.{Reply}
+use Rattle.proto_conn.specs.Fitting.{BatchesFit, IsTakable, RequestsFit}
 use Rattle.proto_conn.specs.Tallies.{AreNewest, IsTallied, Tallied}
 
 -- The link; what was taken from it and isn't handled yet, and the datagram that isn't sent yet, each one at most; the session; the requests that it hasn't
@@ -167,9 +168,10 @@ module _ {T S : Type 0} (kind : T → ℕ) (text : T → List ℕ) where
   abbrev pub asked : Conn T S → Conn T S
   asked c = record c { session = taken_in kind text c.queue c.session; queue = []; requests_gone = c.requests_closed }
 
-  -- Some are taken, and the others stay.
-  pub record AskedSome (before now : Conn T S) : Type 0 where
+  -- Some are taken, and the others stay, of which memory alone refused the first.
+  pub record AskedSome (fits : T → Bool) (before now : Conn T S) : Type 0 where
     pub took : TookSome kind text before.queue before.session now.queue now.session
+    pub memory : IsTakable text fits now.queue now.session.last
     pub stays : now ≡ record before { session = now.session; queue = now.queue }
 
 -- The request of the next stream.
@@ -181,13 +183,16 @@ next_request c messages expect destination =
 abbrev pub queued : {T S : Type 0} → Request T ℕ → Conn T S → Conn T S
 queued r c = record c { queue = c.queue ++ r ∷ []; given_up = c.given_up ++ false ∷ [] }
 
--- What a connection keeps: the count of queued messages, whose numbers are left; room in the lists for what waits in the session; no bytes beside an
--- overrun; and of each stream what is awaited and waits in the session, where the requests of the newest ones are queued.
-pub record IsSound {T : Type 0} (s : Session T ℕ) (queue : List (Request T ℕ))
+-- What a connection keeps: the count of queued messages, whose numbers are left; that each message fits, queued or in a batch of the session; room in
+-- the lists for what waits in the session; no bytes beside an overrun; and of each stream what is awaited and waits in the session, where the requests
+-- of the newest ones are queued.
+pub record IsSound {T : Type 0} (text : T → List ℕ) (fits : T → Bool) (s : Session T ℕ) (queue : List (Request T ℕ))
     (count replies_len replies_room unsolicited_len unsolicited_room : ℕ) (h : Held) (reader : List ℕ)
     (given : ℕ) (t : Tallied) : Type 0 where
   pub counted : count ≡ messages_in queue
   pub numbers : s.last + count < 2 ^ 32
+  pub fit : RequestsFit text fits queue
+  pub batches : BatchesFit text fits s.outgoing
   pub replies : length s.responses + replies_len ≤ replies_room
   pub unsolicited : length s.incoming + unsolicited_len ≤ unsolicited_room
   pub held : IsHeld h reader

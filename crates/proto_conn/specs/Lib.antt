@@ -1,4 +1,5 @@
 pub mod Conn
+pub mod Fitting
 pub mod Flushing
 pub mod Fresh
 pub mod Handles

@@ -36,14 +36,14 @@ module _ {M W : Type 0} (sees : W → NetlinkMessage M → SocketAddr → Handle
     pub answers : answer ≡ poll_answer (shuts_down now)
 
   -- Memory stopped it after the reading.
-  pub record StoppedLater (before : Conn M S) (w : W) (now : Conn M S) (w2 : W) : Type 0 where
+  pub record StoppedLater (fits : M → Bool) (before : Conn M S) (w : W) (now : Conn M S) (w2 : W) : Type 0 where
     pub read : Conn M S
     pub reads_to : Reads sees loses overruns reads meaning before w read w2
     pub drained : Drained meaning before read
-    pub later : AskedSome kind text (forwarded read) now ⊎ SendStopped meaning text (asked kind text (forwarded read)) now
+    pub later : AskedSome kind text fits (forwarded read) now ⊎ SendStopped meaning text fits (asked kind text (forwarded read)) now
 
-  abbrev pub PollStopped : Conn M S → W → Conn M S → W → Type 0
-  PollStopped before w now w2 = Stopped sees loses overruns reads meaning before w now w2 ⊎ StoppedLater before w now w2
+  abbrev pub PollStopped : (M → Bool) → Conn M S → W → Conn M S → W → Type 0
+  PollStopped fits before w now w2 = Stopped sees loses overruns reads meaning before w now w2 ⊎ StoppedLater fits before w now w2
 
 -- ---- a datagram by itself
 

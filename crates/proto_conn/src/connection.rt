@@ -1,10 +1,12 @@
 //! The connection: a session over a link, with its queue and its lists.
-ghost use Rattle.std.specs.Prelude.{◌≡◌, ◌+◌, ◌*◌, ◌-◌, ◌^◌, ◌<◌, ◌≤◌, [], ◌∷◌, ◌++◌, false, length, IfErr, IfOk, OnErr, OnOk, true};
+ghost use Rattle.std.specs.Prelude.{◌≡◌, ◌≢◌, ◌+◌, ◌*◌, ◌-◌, ◌^◌, ◌<◌, ◌≤◌, [], ◌∷◌, ◌++◌, false, length, IfErr, IfOk, OnErr, OnOk, true};
 ghost use Rattle.std.specs.List.{list_all};
 ghost use Rattle.nl_core.specs.Frames.{message_fits};
 ghost use Rattle.proto_conn.specs.Conn.{AskedSome, asked, forwarded, fresh_conn, next_request, queued, refuses, shuts_down, used, with_replies, with_unsolicited};
 ghost use Rattle.proto_conn.specs.Flushing.{Flushed, SendStopped, SendsNext, Unflushed, is_break, is_stuck, loaded};
+ghost use Rattle.proto_conn.specs.Fitting.{AreSendable};
 ghost use Rattle.proto_conn.specs.Handling.{IsRefused};
+ghost use Rattle.proto_conn.specs.declared.framed.FramedError.TheVariants.{Unfit};
 
 mod filling;
 mod polling;
@@ -32,7 +34,7 @@ pub use unsolicited::Unsolicited;
 
 /// A session over a link, with the requests that wait for it and what it hands out.
 #[derive(Drop)]
-pub struct Connection<T, S, C = NetlinkCodec> {
+pub struct Connection<T: NetlinkSerializable, S, C = NetlinkCodec> {
     alloc: Global,
     framed: NetlinkFramed<T, S, C>,
     protocol: Protocol<T, u64>,
@@ -51,7 +53,7 @@ pub struct Connection<T, S, C = NetlinkCodec> {
     unsolicited_gone: bool,
 }
 
-impl<T, S, C> Model for Connection<T, S, C> {
+impl<T: NetlinkSerializable, S, C> Model for Connection<T, S, C> {
     ghost use Rattle.std.specs.Prelude.{length};
     ghost use Rattle.std.specs.VecDeque.{deque_capacity, deque_len};
     ghost use Rattle.proto_conn.specs.Conn.{Conn, IsSound, waiting_in};
@@ -75,12 +77,12 @@ impl<T, S, C> Model for Connection<T, S, C> {
       unsolicited_gone = c.unsolicited_gone;
     } };
 
-    ghost invariant = { λ c. IsSound c.protocol.session c.queue.items c.count
+    ghost invariant = { λ c. IsSound T.text T.fitting c.protocol.session c.queue.items c.count
         (deque_len c.replies) (deque_capacity c.replies) (deque_len c.unsolicited) (deque_capacity c.unsolicited)
         c.held c.framed.reader (length c.given_up.items) c.tallies };
 }
 
-impl<T, S, C> Connection<T, S, C> {
+impl<T: NetlinkSerializable, S, C> Connection<T, S, C> {
     ghost use Rattle.std.specs.Borrow.{Lends, sem};
     ghost use Rattle.std.specs.Prelude.{◌||◌, ◌&&◌};
     ghost use Rattle.proto_conn.specs.contracts.connection.Connection.{the_row};
@@ -137,7 +139,7 @@ impl<T, S, C> Connection<T, S, C> {
 
     /// The link.
     pub fn socket_mut(&mut self) -> &mut S
-        ensures* lends { sem 𝓛 (Lends (the_row T.row S.row C.row) S.row self.entry result
+        ensures* lends { sem 𝓛 (Lends (the_row T.row S.row C.row T.NetlinkSerializable) S.row self.entry result
             (λ link. record self.entry.now { link = link })) }
         ensures now { result.now ≡ self.old.link }
     {
@@ -173,7 +175,7 @@ impl<T, S, C> Connection<T, S, C> {
     }
 }
 
-impl<T, S, C> Connection<T, S, C> {
+impl<T: NetlinkSerializable, S, C> Connection<T, S, C> {
     ghost use Rattle.std.specs.Prelude.{IfNone, IfSome};
 
     /// The oldest forwarded reply of any stream.
@@ -185,7 +187,7 @@ impl<T, S, C> Connection<T, S, C> {
     }
 }
 
-impl<T: Drop, S, C> Connection<T, S, C> {
+impl<T: NetlinkSerializable + Drop, S, C> Connection<T, S, C> {
     /// The side of unsolicited messages is gone, with those that wait in its list.
     pub fn close_unsolicited(&mut self)
         ensures { self.new ≡ record self.old { unsolicited_gone = true; unsolicited = [] } }
@@ -223,7 +225,7 @@ impl<T: NetlinkSerializable, S, C> Connection<T, S, C> {
     /// Takes all requests that wait into the session.
     pub fn poll_requests(&mut self) -> Result<(), NoMemory>
         ensures ok { OnOk result (self.new ≡ asked T.kind T.text self.old) }
-        ensures err { OnErr result (AskedSome T.kind T.text self.old self.new) }
+        ensures err { OnErr result (AskedSome T.kind T.text T.fitting self.old self.new) }
     {
         take_requests(
             &mut self.queue,
@@ -287,19 +289,20 @@ impl<T: NetlinkSerializable, S, C> Connection<T, S, C> {
     }
 }
 
-// Whether a fault of a flush breaks the connection.
+// Whether a fault of a flush, which is never that a message doesn't fit, breaks the connection.
 fn is_break(error: FramedError) -> bool
+    requires { error ≢ Unfit }
     ensures { result ≡ is_break error }
 {
     match error {
         FramedError::NoMemory => false,
         FramedError::LinkFailed => true,
         FramedError::Short { took: _, len: _ } => true,
-        FramedError::Unfit => true,
+        FramedError::Unfit => unreachable!(),
     }
 }
 
-impl<T, S: Link, C> Connection<T, S, C> {
+impl<T: NetlinkSerializable, S: Link, C> Connection<T, S, C> {
     /// Sends what isn't sent yet. A link that fails or takes a part counts as closed from then on, and
     /// the rest is dropped. Out of memory where the link is; then nothing changes but the link.
     pub fn poll_flush(&mut self) -> Result<(), NoMemory>
@@ -335,6 +338,7 @@ impl<T: NetlinkSerializable + Drop, S: Link, C: NetlinkMessageCodec> Connection<
         requires { self.old.unsent ≡ [] }
         ensures ok { OnOk result (self.new ≡ loaded T.text self.old) }
         ensures err { OnErr result (self.new ≡ self.old) }
+        ensures memory { OnErr result (AreSendable T.text T.fitting self.old.session.outgoing) }
     {
         self.framed.load(&mut self.protocol)?;
         Ok(())
@@ -343,7 +347,7 @@ impl<T: NetlinkSerializable + Drop, S: Link, C: NetlinkMessageCodec> Connection<
     /// Sends what isn't sent yet, and then at most one batch that waits. An empty batch sends nothing.
     pub fn poll_send_messages(&mut self) -> Result<(), NoMemory>
         ensures ok { OnOk result (SendsNext S.meaning T.text self.old self.new) }
-        ensures err { OnErr result (SendStopped S.meaning T.text self.old self.new) }
+        ensures err { OnErr result (SendStopped S.meaning T.text T.fitting self.old self.new) }
     {
         self.poll_flush()?;
         if self.is_stuck() {

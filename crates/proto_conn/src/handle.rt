@@ -53,7 +53,7 @@ impl ReplyStream {
     /// The oldest message of the stream's list. Ended where none waits there, no reply of it waits in the session, and
     /// none can come any more: its request has left the queue with no number awaited, or there is no more to do. A
     /// stream that the connection hasn't given counts as one whose request waits in the queue.
-    pub fn poll_next<T, S, C>(
+    pub fn poll_next<T: NetlinkSerializable, S, C>(
         &mut self,
         connection: &mut Connection<T, S, C>,
     ) -> Polled<NetlinkMessage<T>>
@@ -73,7 +73,7 @@ impl ReplyStream {
 
     /// Drops the replies of the stream, those that wait in the connection's list and those that are
     /// still to come. A stream that the connection hasn't given changes nothing.
-    pub fn give_up<T: Drop, S, C>(self, connection: &mut Connection<T, S, C>)
+    pub fn give_up<T: NetlinkSerializable + Drop, S, C>(self, connection: &mut Connection<T, S, C>)
         ensures { connection.new ≡ without_stream (stream_id self) connection.old }
     {
         connection.give_up(self.id);
@@ -81,7 +81,7 @@ impl ReplyStream {
 }
 
 /// A connection over a link, whose first number is one more than `start`, a handle on it, and its unsolicited messages.
-pub fn from_socket_at<T, S: Drop, C>(
+pub fn from_socket_at<T: NetlinkSerializable, S: Drop, C>(
     alloc: Global,
     socket: S,
     start: u32,
@@ -100,7 +100,7 @@ pub fn from_socket_at<T, S: Drop, C>(
 }
 
 /// A connection over a link whose first number is 1.
-pub fn from_socket_with_codec<T, S: Drop, C>(
+pub fn from_socket_with_codec<T: NetlinkSerializable, S: Drop, C>(
     alloc: Global,
     socket: S,
 ) -> Result<(Connection<T, S, C>, ConnectionHandle<T>, Unsolicited), NoMemory>

@@ -3,12 +3,14 @@ ghost use Rattle.std.specs.Prelude.{◌≡◌, ◌==◌, ◌+◌, ◌≤◌, ◌
 ghost use Rattle.std.specs.VecDeque.{deque_capacity, deque_len};
 ghost use Rattle.std.specs.List.{position};
 ghost use Rattle.proto_conn.specs.Conn.{TookSome, gave_up, handed_on, is_kept_back, messages_in, taken_in};
+ghost use Rattle.proto_conn.specs.Fitting.{BatchesFit, IsTakable, RequestsFit};
 ghost use Rattle.proto_conn.specs.Tallies.{AreNewest, IsTallied};
+ghost use Rattle.proto_core.specs.declared.request.RequestRefusal.TheVariants.{NoMemory as OutOfMemory};
 
 use crate::parts::{Forward, Reply};
 use crate::tally::Tallies;
 use nl_core::{NetlinkPayload, NetlinkSerializable, NoMemory};
-use proto_core::{Incoming, Protocol, Request, Response};
+use proto_core::{Incoming, Protocol, Request, RequestRefusal, Response};
 use std::collections::VecDeque;
 
 // Whether a reply is kept back by its payload.
@@ -96,6 +98,17 @@ pub fn forward_incoming<T: Drop>(
     }
 }
 
+// What a refusal is where there are numbers left and each message fits.
+pub fn want_of_memory(refusal: RequestRefusal) -> NoMemory
+    requires { refusal ≡ OutOfMemory }
+{
+    match refusal {
+        RequestRefusal::SequenceExhausted { used: _, asked: _ } => unreachable!(),
+        RequestRefusal::Unfit { index: _ } => unreachable!(),
+        RequestRefusal::NoMemory => NoMemory,
+    }
+}
+
 /// Takes requests into a session, all of them or until memory runs out.
 pub fn take_requests<T: NetlinkSerializable>(
     queue: &mut VecDeque<Request<T, u64>>,
@@ -105,6 +118,8 @@ pub fn take_requests<T: NetlinkSerializable>(
 ) -> Result<(), NoMemory>
     requires counted { count.old ≡ messages_in queue.old.items }
     requires numbers { protocol.old.session.last + count.old < 2 ^ 32 }
+    requires fit { RequestsFit T.text T.fitting queue.old.items }
+    requires batches { BatchesFit T.text T.fitting protocol.old.session.outgoing }
     requires newest { AreNewest (length tallies.old.streams) queue.old.items }
     requires tallied { IsTallied protocol.old.session.awaited protocol.old.session.responses
         protocol.old.session.arrived tallies.old }
@@ -112,6 +127,9 @@ pub fn take_requests<T: NetlinkSerializable>(
     ensures empty { OnOk result (queue.new.items ≡ []) }
     ensures err { OnErr result (TookSome T.kind T.text
         queue.old.items protocol.old.session queue.new.items protocol.new.session) }
+    ensures memory { OnErr result (IsTakable T.text T.fitting queue.new.items protocol.new.session.last) }
+    ensures fit { RequestsFit T.text T.fitting queue.new.items }
+    ensures batches { BatchesFit T.text T.fitting protocol.new.session.outgoing }
     ensures counted { count.new ≡ messages_in queue.new.items }
     ensures numbers { protocol.new.session.last + count.new ≡ protocol.old.session.last + count.old }
     ensures lists { (protocol.new.session.responses ≡ protocol.old.session.responses)
@@ -131,9 +149,9 @@ pub fn take_requests<T: NetlinkSerializable>(
                 let noted = protocol.pending_len() - awaited;
                 tallies.note_request(stream, noted);
             }
-            Err((_, request)) => {
+            Err((refusal, request)) => {
                 queue.push_front_reserved(request);
-                return Err(NoMemory);
+                return Err(want_of_memory(refusal));
             }
         }
     }

@@ -6,7 +6,7 @@ ghost use Rattle.proto_conn.specs.Polls.{Fills, Waits};
 use super::Connection;
 use crate::link::{Link, Received};
 use crate::parts::{Held, Waiting, is_overrun};
-use nl_core::{NetlinkDeserializable, NoMemory};
+use nl_core::{NetlinkDeserializable, NetlinkSerializable, NoMemory};
 use proto_core::NetlinkMessageCodec;
 use session_model::SocketAddr;
 
@@ -21,7 +21,7 @@ fn is_datagram(held: Held) -> bool
     }
 }
 
-impl<T, S, C> Connection<T, S, C> {
+impl<T: NetlinkSerializable, S, C> Connection<T, S, C> {
     /// The bytes of the datagram that waits, and where it came from.
     pub fn waiting_bytes(&self) -> (&[u8], SocketAddr)
         requires { HasDatagram self.now.waiting }
@@ -31,7 +31,11 @@ impl<T, S, C> Connection<T, S, C> {
     }
 }
 
-impl<T: NetlinkDeserializable, S: Link, C: NetlinkMessageCodec> Connection<T, S, C> {
+impl<T: NetlinkSerializable + NetlinkDeserializable, S: Link, C: NetlinkMessageCodec> Connection<
+    T,
+    S,
+    C,
+> {
     /// What waits to be handled; where nothing does, one read of the link. Nothing is asked of a link that counts as
     /// closed.
     pub fn fill(&mut self) -> Result<Waiting, NoMemory>

@@ -22,7 +22,7 @@ impl<
         ensures ok { IfOk result (λ answer. DidPoll W.sees W.loses W.overruns T.reads T.kind T.text S.meaning
             self.old watch.old answer self.new watch.new) }
         ensures err { OnErr result (PollStopped W.sees W.loses W.overruns T.reads T.kind T.text S.meaning
-            self.old watch.old self.new watch.new) }
+            T.fitting self.old watch.old self.new watch.new) }
     {
         self.read_with(watch)?;
         self.forward_unsolicited_messages();
@@ -42,7 +42,7 @@ impl<
         ensures ok { IfOk result (λ answer. DidPoll sees_nothing loses_nothing overruns_nothing
             T.reads T.kind T.text S.meaning self.old tt answer self.new tt) }
         ensures err { OnErr result (PollStopped sees_nothing loses_nothing overruns_nothing
-            T.reads T.kind T.text S.meaning self.old tt self.new tt) }
+            T.reads T.kind T.text S.meaning T.fitting self.old tt self.new tt) }
     {
         self.poll_with(&mut ())
     }

@@ -12,7 +12,7 @@ use crate::link::Link;
 use crate::parts::{Held, Reply, is_overrun};
 use crate::tally::Tallies;
 use crate::watch::Watch;
-use nl_core::{NetlinkDeserializable, NetlinkMessage, NoMemory};
+use nl_core::{NetlinkDeserializable, NetlinkMessage, NetlinkSerializable, NoMemory};
 use proto_core::{Incoming, NetlinkMessageCodec, Protocol};
 use session_model::SocketAddr;
 use std::collections::VecDeque;
@@ -69,6 +69,7 @@ pub fn take_in<T, W: Watch<T>>(
     ensures responses { length protocol.new.session.responses ≤ length protocol.old.session.responses + 1 }
     ensures incoming { length protocol.new.session.incoming ≤ length protocol.old.session.incoming + 1 }
     ensures last { protocol.new.session.last ≡ protocol.old.session.last }
+    ensures outgoing { protocol.new.session.outgoing ≡ protocol.old.session.outgoing }
     ensures arrived { protocol.new.session.arrived ≡ protocol.old.session.arrived + 1 }
     ensures spare { protocol.old.spare ≤ protocol.new.spare + 1 }
     ensures given { length tallies.new.streams ≡ length tallies.old.streams }
@@ -82,7 +83,11 @@ pub fn take_in<T, W: Watch<T>>(
     seen
 }
 
-impl<T: NetlinkDeserializable, S: Link, C: NetlinkMessageCodec> Connection<T, S, C> {
+impl<T: NetlinkSerializable + NetlinkDeserializable, S: Link, C: NetlinkMessageCodec> Connection<
+    T,
+    S,
+    C,
+> {
     // What waits is no more than a datagram.
     fn hold_bound(&self)
         ensures { loads_of self.now.waiting ≤ 65536 }

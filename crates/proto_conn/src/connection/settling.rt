@@ -14,7 +14,7 @@ use crate::framed::overrun_message;
 use crate::parts::{Held, is_overrun};
 use crate::tally::Tallies;
 use bytes::BytesMut;
-use nl_core::{NetlinkDeserializable, NetlinkMessage, NoMemory};
+use nl_core::{NetlinkDeserializable, NetlinkMessage, NetlinkSerializable, NoMemory};
 use proto_core::{Decoded, NetlinkMessageCodec, Protocol};
 use session_model::SocketAddr;
 use std::alloc::Global;
@@ -63,6 +63,7 @@ fn take_all<T: Drop>(
     ensures incoming { length protocol.new.session.incoming
         ≤ length protocol.old.session.incoming + length messages.items }
     ensures last { protocol.new.session.last ≡ protocol.old.session.last }
+    ensures outgoing { protocol.new.session.outgoing ≡ protocol.old.session.outgoing }
     ensures given { length tallies.new.streams ≡ length tallies.old.streams }
     ensures tallied { IsTallied protocol.new.session.awaited protocol.new.session.responses
         protocol.new.session.arrived tallies.new }
@@ -73,7 +74,11 @@ fn take_all<T: Drop>(
     }
 }
 
-impl<T: NetlinkDeserializable + Drop, S, C: NetlinkMessageCodec> Connection<T, S, C> {
+impl<T: NetlinkSerializable + NetlinkDeserializable + Drop, S, C: NetlinkMessageCodec> Connection<
+    T,
+    S,
+    C,
+> {
     // The messages of what waits, and where they came from.
     fn waiting_messages(&self) -> Result<(Vec<NetlinkMessage<T>>, SocketAddr), NoMemory>
         ensures messages { IfOk result (λ p.

@@ -5,6 +5,7 @@ ghost use Rattle.proto_conn.specs.Streaming.{HasNone, TakesReply, awaits, is_ask
 use super::Connection;
 use crate::parts::Reply;
 use crate::queues::find_reply;
+use nl_core::NetlinkSerializable;
 
 // Marks a stream as given up, if it was given.
 fn mark(given_up: &mut Vec<bool>, stream: u64)
@@ -15,7 +16,7 @@ fn mark(given_up: &mut Vec<bool>, stream: u64)
     }
 }
 
-impl<T: Drop, S, C> Connection<T, S, C> {
+impl<T: NetlinkSerializable + Drop, S, C> Connection<T, S, C> {
     // Drops the replies of a stream, and those that are still to come.
     pub fn give_up(&mut self, stream: u64)
         ensures { self.new ≡ without_stream stream self.old }
@@ -25,7 +26,7 @@ impl<T: Drop, S, C> Connection<T, S, C> {
     }
 }
 
-impl<T, S, C> Connection<T, S, C> {
+impl<T: NetlinkSerializable, S, C> Connection<T, S, C> {
     // Whether the request of a stream waits in the queue, or the stream isn't given yet.
     fn is_asking(&self, stream: u64) -> bool
         ensures { result ≡ is_asking stream self.now }

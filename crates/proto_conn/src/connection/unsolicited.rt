@@ -4,13 +4,14 @@ ghost use Rattle.proto_conn.specs.Streaming.{UnsolicitedAnswers, is_over};
 
 use super::Connection;
 use crate::framed::Polled;
+use nl_core::NetlinkSerializable;
 use proto_core::Incoming;
 
 /// The messages that nothing awaited, of the connection that is handed in.
 #[derive(Debug, PartialEq, Eq, Drop)]
 pub struct Unsolicited;
 
-impl<T, S, C> Connection<T, S, C> {
+impl<T: NetlinkSerializable, S, C> Connection<T, S, C> {
     // Whether no message comes any more that nothing awaited.
     fn is_over(&self) -> bool
         ensures { result ≡ is_over self.now }
@@ -30,7 +31,7 @@ impl<T, S, C> Connection<T, S, C> {
 impl Unsolicited {
     /// The oldest message. Ended where none waits, neither here nor in the session, and the link or
     /// this side is closed.
-    pub fn poll_next<T, S, C>(
+    pub fn poll_next<T: NetlinkSerializable, S, C>(
         &mut self,
         connection: &mut Connection<T, S, C>,
     ) -> Polled<Incoming<T>>

@@ -1,7 +1,8 @@
 //! The frames of a batch, as one datagram.
-ghost use Rattle.std.specs.Prelude.{◌≡◌, ◌+◌, ◌≤◌, [], ◌++◌, length, IfSome, OnErr, OnOk, OnSome, true};
+ghost use Rattle.std.specs.Prelude.{◌≡◌, ◌+◌, ◌≤◌, [], ◌++◌, length, IfNone, IfSome, OnErr, OnOk, ◌^◌, true};
 ghost use Rattle.std.specs.List.{list_all};
 ghost use Rattle.nl_core.specs.Frames.{message_fits, message_text};
+ghost use Rattle.proto_conn.specs.Fitting.{AreSendable, BatchesFit};
 ghost use Rattle.proto_conn.specs.Flushing.{Loads};
 ghost use Rattle.proto_conn.specs.Sending.{texts};
 
@@ -11,16 +12,14 @@ use nl_core::{NetlinkMessage, NetlinkSerializable, NoMemory};
 use proto_core::{NetlinkMessageCodec, Outgoing, Protocol};
 use std::collections::VecDeque;
 
-// How many bytes the frames of messages have, where each fits.
+// How many bytes the frames of messages have, unless they are more than memory can hold.
 fn texts_len<T: NetlinkSerializable>(messages: &[NetlinkMessage<T>]) -> Option<usize>
+    requires fit { list_all (message_fits T.text T.fitting) messages.now ≡ true }
     ensures len { IfSome result (λ n. n ≡ length (texts T.text messages.now)) }
-    ensures fit { OnSome result (list_all (message_fits T.text T.fitting) messages.now ≡ true) }
+    ensures more { IfNone result (2 ^ 64 ≤ length (texts T.text messages.now)) }
 {
     let mut len: usize = 0;
     for message in messages {
-        if !message.fits() {
-            return None;
-        }
         len = len.checked_add(message.buffer_len())?;
     }
     Some(len)
@@ -62,10 +61,13 @@ impl<T: NetlinkSerializable + Drop, S, C: NetlinkMessageCodec> NetlinkFramed<T, 
     // Makes the oldest batch of a session what is to be sent, if there is one. Out of memory leaves it
     // where it is.
     pub fn load(&mut self, protocol: &mut Protocol<T, u64>) -> Result<(), NoMemory>
-        requires { self.old.writer ≡ [] }
+        requires written { self.old.writer ≡ [] }
+        requires fit { BatchesFit T.text T.fitting protocol.old.session.outgoing }
         ensures ok { OnOk result (Loads T.text self.old protocol.old.session protocol.old.session.outgoing
             self.new protocol.new.session) }
         ensures err { OnErr result ((self.new ≡ self.old) × (protocol.new.session ≡ protocol.old.session)) }
+        ensures memory { OnErr result (AreSendable T.text T.fitting protocol.old.session.outgoing) }
+        ensures fit { BatchesFit T.text T.fitting protocol.new.session.outgoing }
         ensures numbers { protocol.new.session.last ≡ protocol.old.session.last }
         ensures lists { (protocol.new.session.responses ≡ protocol.old.session.responses)
             × (protocol.new.session.incoming ≡ protocol.old.session.incoming) }

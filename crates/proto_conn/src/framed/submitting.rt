@@ -1,10 +1,14 @@
 //! A request that is sent in the call that takes it.
-ghost use Rattle.std.specs.Prelude.{◌≡◌, [], length, IfOk, OnErr};
+ghost use Rattle.std.specs.Prelude.{◌≡◌, ◌+◌, ◌<◌, ◌^◌, [], length, IfOk, OnErr, OnOk, true};
+ghost use Rattle.std.specs.List.{list_all};
+ghost use Rattle.nl_core.specs.Frames.{message_fits};
+ghost use Rattle.proto_conn.specs.Fitting.{BatchesFit};
 ghost use Rattle.proto_conn.specs.Sending.{Sends};
 ghost use Rattle.proto_conn.specs.Submitting.{SendsFirst, Takes, is_behind, without_first};
 
 use super::{FramedError, NetlinkFramed};
 use crate::link::Link;
+use crate::queues::want_of_memory;
 use nl_core::{NetlinkSerializable, NoMemory};
 use proto_core::{NetlinkMessageCodec, Protocol, Request};
 use session_model::SocketAddr;
@@ -30,9 +34,11 @@ impl<T: NetlinkSerializable + Drop, S: Link, C: NetlinkMessageCodec> NetlinkFram
     // Sends the oldest batch of a session, and answers whether the link broke. Out of memory drops the
     // batch, and changes nothing else but the link, which was sent nothing.
     fn send_first(&mut self, protocol: &mut Protocol<T, u64>) -> Result<bool, NoMemory>
-        requires { self.old.writer ≡ [] }
+        requires written { self.old.writer ≡ [] }
+        requires fit { BatchesFit T.text T.fitting protocol.old.session.outgoing }
         ensures ok { IfOk result (λ broke. SendsFirst S.meaning T.text self.old protocol.old.session broke
             self.new protocol.new.session) }
+        ensures fit { OnOk result (BatchesFit T.text T.fitting protocol.new.session.outgoing) }
         ensures session { OnErr result (protocol.new.session ≡ without_first protocol.old.session) }
         ensures stays { OnErr result (self.new ≡ record self.old { link = self.new.link }) }
         ensures sends { OnErr result (Sends (S.meaning self.old.link) [] (S.meaning self.new.link)) }
@@ -50,7 +56,7 @@ impl<T: NetlinkSerializable + Drop, S: Link, C: NetlinkMessageCodec> NetlinkFram
             }
             Err(FramedError::LinkFailed) => Ok(true),
             Err(FramedError::Short { took: _, len: _ }) => Ok(true),
-            Err(FramedError::Unfit) => Ok(true),
+            Err(FramedError::Unfit) => unreachable!(),
         }
     }
 
@@ -61,6 +67,10 @@ impl<T: NetlinkSerializable + Drop, S: Link, C: NetlinkMessageCodec> NetlinkFram
         protocol: &mut Protocol<T, u64>,
         request: Request<T, u64>,
     ) -> Result<bool, NoMemory>
+        requires in_range { protocol.old.session.last + length request.messages < 2 ^ 32 }
+        requires fit { list_all (message_fits T.text T.fitting) request.messages ≡ true }
+        requires batches { BatchesFit T.text T.fitting protocol.old.session.outgoing }
+        ensures batches { BatchesFit T.text T.fitting protocol.new.session.outgoing }
         ensures ok { IfOk result (λ broke. Takes S.meaning T.kind T.text self.old protocol.old.session request broke
             self.new protocol.new.session) }
         ensures session { OnErr result (protocol.new.session ≡ protocol.old.session) }
@@ -70,9 +80,10 @@ impl<T: NetlinkSerializable + Drop, S: Link, C: NetlinkMessageCodec> NetlinkFram
         let last = protocol.sequence_id();
         let pending = protocol.pending_len();
         let behind = self.is_behind(protocol);
-        let Ok(()) = protocol.request(request) else {
-            return Err(NoMemory);
-        };
+        match protocol.request(request) {
+            Ok(()) => {}
+            Err((refusal, _request)) => return Err(want_of_memory(refusal)),
+        }
         if behind {
             return Ok(false);
         }

@@ -2,6 +2,7 @@ use Rattle.std.proofs.Common.{refl, subst, sym, ◌≡◌, ◌+◌, ◌∷◌, l
 use Rattle.proto_core.specs.Session.{Session}
 use Rattle.proto_conn.specs.Conn.{messages_in}
 use Rattle.proto_conn.specs.Tallies.{AreNewest}
+use Rattle.proto_conn.proofs.Fits.{first_fits, memory_alone, requested_fit, rest_fits}
 use Rattle.proto_conn.proofs.OneMore.{took_one}
 use Rattle.proto_conn.proofs.Numbering.{noted_fits, noted_more, same_length, tallied_took}
 use Rattle.proto_conn.proofs.queues.take_requests.Goals as goal
@@ -17,6 +18,10 @@ requests-preserved g c =
     record {
       took = took_one g.T.NetlinkSerializable.kind g.T.NetlinkSerializable.text _ _ _ _ _ _ c.in-Some.request cut c.in-Ok.ensures.ok c.requests.invariant.took;
       counted = omega (arith, sum, len);
+      fit = rest_fits g.T.NetlinkSerializable.text g.T.NetlinkSerializable.fitting c.in-Some.request _ _ cut c.requests.invariant.fit;
+      batches = requested_fit g.T.NetlinkSerializable.text g.T.NetlinkSerializable.fitting g.T.NetlinkSerializable.kind c.requests.protocol.session _
+          c.in-Some.request c.in-Ok.ensures.ok c.requests.invariant.batches
+          (first_fits g.T.NetlinkSerializable.text g.T.NetlinkSerializable.fitting c.in-Some.request _ _ cut c.requests.invariant.fit);
       numbers = omega (arith, sum, len, last, c.requests.invariant.numbers);
       responses = ap (λ (s : Session g.row.T.Denot _). s.responses) c.in-Ok.ensures.ok ∙ c.requests.invariant.responses;
       incoming = ap (λ (s : Session g.row.T.Denot _). s.incoming) c.in-Ok.ensures.ok ∙ c.requests.invariant.incoming;
@@ -48,3 +53,12 @@ pub overflow_sub-noted : goal.overflow_sub-noted
 overflow_sub-noted g c =
     noted_more g.T.NetlinkSerializable.kind g.T.NetlinkSerializable.text c.requests.protocol.session c.request.new.self.session
     c.in-Some.request _ _ c.in-Ok.ensures.ok c.pending_len-awaited.ensures.len c.pending_len.ensures.len
+
+pub want_of_memory-requires : goal.want_of_memory-requires
+want_of_memory-requires g c =
+    let cut : c.requests.queue.items ≡ c.in-Some.request ∷ c.pop_front.new.self.items = c.in-Some.ensures.items in
+    let sum : c.requests.count ≡ length c.in-Some.request.messages + messages_in c.pop_front.new.self.items = c.requests.invariant.counted
+    ∙ ap messages_in cut in
+    memory_alone g.T.NetlinkSerializable.text g.T.NetlinkSerializable.fitting c.requests.protocol.session.last c.in-Some.request.messages
+    c.in-Err.refusal c.in-Err.ensures.refused (omega (arith, sum, c.requests.invariant.numbers, c.requires.numbers))
+    (first_fits g.T.NetlinkSerializable.text g.T.NetlinkSerializable.fitting c.in-Some.request _ _ cut c.requests.invariant.fit)

@@ -18,7 +18,7 @@ returns-in_err-load-clause-err g c =
       mid = c.poll_flush.new.self;
       first = c.in_ok-poll_flush.ensures.ok;
       free = sym c.is_stuck.ensures ∙ c.if-is_stuck.false;
-      next = inl c.in_err-load.ensures.err;
+      next = inl (c.in_err-load.ensures.err, c.in_err-load.ensures.memory);
     }))
 
 pub returns-clause-ok : goal.returns-clause-ok

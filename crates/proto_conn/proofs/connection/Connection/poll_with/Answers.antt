@@ -17,7 +17,7 @@ returns-in_err-poll_requests-clause-err g c =
       reads_to = c.in_ok-read_with.ensures.ok.0;
       drained = c.in_ok-read_with.ensures.ok.1;
       later = inl (subst (λ
-          (v : Conn g.row.T.Denot g.row.S.Denot). AskedSome g.T.NetlinkSerializable.kind g.T.NetlinkSerializable.text v c.poll_requests.new.self) f c.in_err-poll_requests.ensures.err);
+          (v : Conn g.row.T.Denot g.row.S.Denot). AskedSome g.T.NetlinkSerializable.kind g.T.NetlinkSerializable.text g.T.NetlinkSerializable.fitting v c.poll_requests.new.self) f c.in_err-poll_requests.ensures.err);
     }))
 
 pub returns-in_err-poll_send_messages-clause-err : goal.returns-in_err-poll_send_messages-clause-err
@@ -30,7 +30,7 @@ returns-in_err-poll_send_messages-clause-err g c =
       reads_to = c.in_ok-read_with.ensures.ok.0;
       drained = c.in_ok-read_with.ensures.ok.1;
       later = inr (subst (λ
-          (v : Conn g.row.T.Denot g.row.S.Denot). SendStopped g.S.Link.meaning g.T.NetlinkSerializable.text v c.poll_send_messages.new.self) a c.in_err-poll_send_messages.ensures.err);
+          (v : Conn g.row.T.Denot g.row.S.Denot). SendStopped g.S.Link.meaning g.T.NetlinkSerializable.text g.T.NetlinkSerializable.fitting v c.poll_send_messages.new.self) a c.in_err-poll_send_messages.ensures.err);
     }))
 
 pub returns-then-should_shut_down-clause-ok : goal.returns-then-should_shut_down-clause-ok

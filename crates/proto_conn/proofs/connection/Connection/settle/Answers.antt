@@ -39,7 +39,7 @@ invariant_of-self-2 g c =
     sound_more c.self.inside.protocol.session c.make_room.new.protocol.session _ _ _ _ _ _ _ _ _ _ _ c.self.inside.held _
     c.self.inside.framed.reader _ _ c.self.inside.tallies _ (length c.in_ok-messages.messages.items) c.make_room.ensures.session
     (omega (arith, c.in_ok-make_room.ensures.more_replies, len, own)) (omega (arith, c.in_ok-make_room.ensures.more_unsolicited, len, own)) tt
-    c.take_all.ensures.last c.take_all.ensures.responses c.take_all.ensures.incoming c.take_all.ensures.given c.take_all.ensures.tallied
+    c.take_all.ensures.last c.take_all.ensures.responses c.take_all.ensures.incoming c.take_all.ensures.outgoing c.take_all.ensures.given c.take_all.ensures.tallied
     c.self.invariant
 
 pub returns-clause-count : goal.returns-clause-count

@@ -54,7 +54,7 @@ invariant_of-self-2 g c =
     (omega (arith, marks, more, own)) (omega (arith, number, own))
     (ap (λ (v : Conn g.row.T.Denot g.row.S.Denot). v.queue) c.self.view_is ∙ c.requires) c.in_ok-add.ensures.ok c.note_request.ensures
     (omega (arith, c.self.invariant.counted, last, len, c.in_ok-check_request.ensures.in_range)) c.pending_len-awaited.ensures.len
-    c.pending_len.ensures.len refl c.self.invariant
+    c.pending_len.ensures.len refl c.submit.ensures.batches c.self.invariant
 
 pub returns-clause-ok : goal.returns-clause-ok
 returns-clause-ok g c =

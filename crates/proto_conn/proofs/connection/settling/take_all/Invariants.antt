@@ -14,6 +14,7 @@ invariant-messages g l = record {
   responses : length l.protocol.session.responses + length l.messages.items ≤ length l.initial.protocol.session.responses + length l.initial.messages.items;
   incoming : length l.protocol.session.incoming + length l.messages.items ≤ length l.initial.protocol.session.incoming + length l.initial.messages.items;
   last : l.protocol.session.last ≡ l.initial.protocol.session.last;
+  outgoing : l.protocol.session.outgoing ≡ l.initial.protocol.session.outgoing;
   given : length l.tallies.streams ≡ length l.initial.tallies.streams;
   tallied : IsTallied l.protocol.session.awaited l.protocol.session.responses l.protocol.session.arrived l.tallies;
 }
