@@ -18,4 +18,5 @@ pub mod Blocked
 pub mod Lookups
 pub mod Records
 pub mod OutputGrowth
+pub mod OutputAsPeer
 pub mod BlockedSets

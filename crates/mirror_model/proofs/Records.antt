@@ -54,7 +54,8 @@ module _ {M K V : Type 0} (r : Reader M K V) (f : Format M) (s : Settings) where
   resync_alone to (Ok m) = tt
   resync_alone to (Err e) = tt
 
-  record_alone : (entry : Record) → AllByRecursion (AsksAlone r) (record_events f s entry)
+  -- Those of one record do.
+  pub record_alone : (entry : Record) → AllByRecursion (AsksAlone r) (record_events f s entry)
   record_alone (Recv source bytes) =
       all_append _ _ (leftover f source (rest_of bytes)) (brought_alone source (frames_of bytes)) (rest_alone source (rest_of bytes))
   record_alone Overrun = (tt, tt)

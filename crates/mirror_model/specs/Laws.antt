@@ -24,8 +24,9 @@ use Rattle.mirror_model.specs.FiniteTables.{finite}
 use Rattle.mirror_model.specs.Sessions.{Reader, AsksAlone, table_event, table_events, answered, handled_as, handled_event}
 use Rattle.mirror_model.specs.Routes.{RouteKey, NextHop, RouteTable, LinkTable, key_cmp, best_route, IsBest, lookup}
 use Rattle.mirror_model.specs.Blocked.{is_same, newly_blocked, unblocks, blocked_at}
-use Rattle.mirror_model.specs.Lookups.{Readers, lookup_in, lookup_at, routes_state, links_state, links_in_force}
+use Rattle.mirror_model.specs.Lookups.{Readers, lookup_in, lookup_at, peer_answer, routes_state, links_state, links_in_force}
 use Rattle.mirror_model.specs.Honest.{IsHonest, IsWhole, is_accounted_for}
+use Rattle.mirror_model.specs.OutputText.{output_text, text_from}
 
 -- ---- over tables
 
@@ -125,3 +126,10 @@ module _ {M : Type 0} (r : Readers M) where
       → AllByRecursion (AsksAlone r.routes) before → AllByRecursion (AsksAlone r.links) before → AreHonest start routes links (before ++ later)
       → (a : Address) → lookup_at r start before a ≢ Stale
       → lookup_at r start before a ≡ lookup a (blocked_at before) (Some (routes (length before))) (Some (links (length before)))
+
+  -- The text of records is that in which the peer's own tables answer wherever a mirror is in step, as long as the peer is
+  -- honest.
+  abbrev pub OutputAsPeer : Format M → Type 0
+  OutputAsPeer f = (s : Settings) (routes : ℕ → RouteTable) (links : ℕ → LinkTable) (rs : List Record)
+      → AreHonest s.start routes links (events_of f s rs)
+      → output_text f s r rs ≡ text_from f s (peer_answer r s.start routes links) [] rs

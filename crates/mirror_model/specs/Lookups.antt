@@ -1,5 +1,5 @@
 -- What a lookup answers at a place of a session.
-use Rattle.std.specs.Prelude.{ℕ, Bool, if◌then◌else◌, List, Option, Some}
+use Rattle.std.specs.Prelude.{◌&&◌, ◌||◌, ℕ, Bool, if◌then◌else◌, not, List, length, Option, Some}
 use Rattle.std.specs.FinMap.{empty}
 use Rattle.std.specs.Ordering.{nat_cmp}
 use Rattle.session_model.specs.Events.{Event}
@@ -9,7 +9,7 @@ use Rattle.session_model.specs.declared.network.Network.{Network}
 use Rattle.mirror_model.specs.declared.answer.Answer.{Answer}
 use Rattle.mirror_model.specs.declared.answer.Answer.TheVariants.{Stale}
 use Rattle.mirror_model.specs.MirrorState.{MirrorState, fresh, state_after}
-use Rattle.mirror_model.specs.Clean.{table_at}
+use Rattle.mirror_model.specs.Clean.{is_in_step_at, table_at}
 use Rattle.mirror_model.specs.FiniteTables.{finite}
 use Rattle.mirror_model.specs.Sessions.{Reader, table_events}
 use Rattle.mirror_model.specs.Routes.{RouteKey, NextHop, RouteTable, LinkTable, key_cmp, lookup}
@@ -37,6 +37,17 @@ module _ {M : Type 0} (r : Readers M) where
   -- The answer for an address at a place: stale once the link has closed, and where a table isn't in force.
   abbrev pub lookup_at : ℕ → List (Event M) → Address → Answer
   lookup_at start es a = if is_shut es then Stale else lookup a (blocked_at es) (routes_at start es) (links_at start es)
+
+  -- Whether a mirror is in step at a place: for routes, and for links where they count.
+  abbrev pub is_in_step_for : ℕ → List (Event M) → Bool
+  is_in_step_for start es =
+      is_in_step_at (table_events r.routes start es) && (not r.links_count || is_in_step_at (table_events r.links start es))
+
+  -- The answer for an address by the peer's own tables at a place, which are given for each place; stale where a mirror
+  -- isn't in step.
+  abbrev pub peer_answer : ℕ → (ℕ → RouteTable) → (ℕ → LinkTable) → List (Event M) → Address → Answer
+  peer_answer start routes links es a =
+      if is_in_step_for start es then lookup a (blocked_at es) (Some (routes (length es))) (Some (links (length es))) else Stale
 
   -- The state of a mirror for routes that took the events one after another.
   abbrev pub routes_state : ℕ → List (Event M) → MirrorState RouteTable

@@ -1,5 +1,5 @@
 -- What is written of a transcript: its session's text, and a line for each look-up.
-use Rattle.std.specs.Prelude.{◌≡◌, ◌++◌, ◌&&◌, ◌||◌, ℕ, Bool, not, List, [], ◌∷◌, Option, Some, None, codes}
+use Rattle.std.specs.Prelude.{◌≡◌, ◌++◌, ℕ, Bool, List, [], ◌∷◌, Option, Some, None, codes}
 use Rattle.std.specs.Fmt.{decimal}
 use Rattle.std.specs.List.{AllByRecursion}
 use Rattle.nl_core.specs.Frames.{Format}
@@ -14,9 +14,7 @@ use Rattle.session_model.specs.SessionText.{session_text, text_of_events}
 use Rattle.mirror_model.specs.declared.answer.Answer.{Answer}
 use Rattle.mirror_model.specs.declared.answer.Answer.TheVariants.{Stale, Absent, Found}
 use Rattle.mirror_model.specs.declared.route.Route.{Route}
-use Rattle.mirror_model.specs.Clean.{is_in_step_at}
-use Rattle.mirror_model.specs.Lookups.{Readers, lookup_at}
-use Rattle.mirror_model.specs.Sessions.{table_events}
+use Rattle.mirror_model.specs.Lookups.{Readers, is_in_step_for, lookup_at}
 
 -- ---- the line of an answer
 
@@ -74,9 +72,7 @@ module _ {M : Type 0} (f : Format M) (s : Settings) (r : Readers M) where
 
   -- Whether a mirror is in step after records: for routes, and for links where they count.
   abbrev pub in_step_after : List Record → Bool
-  in_step_after rs =
-      is_in_step_at (table_events r.routes s.start (events_of f s rs))
-      && (not r.links_count || is_in_step_at (table_events r.links s.start (events_of f s rs)))
+  in_step_after rs = is_in_step_for r s.start (events_of f s rs)
 
   -- A record's text follows that of the records before it, and depends on these alone.
   abbrev pub OutputGrows : Type 0

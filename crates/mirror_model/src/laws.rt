@@ -9,7 +9,7 @@ ghost use Rattle.mirror_model.specs.Laws.{SuitsSessions, ClosesAsShut, RecordsAs
 ghost use Rattle.mirror_model.specs.Laws.{IgnoresOthers, ConvergesInSessions, AnswersBest, BlocksBySteps, BlocksAsSet};
 ghost use Rattle.mirror_model.specs.OutputText.{IsSessionText, OutputGrows};
 ghost use Rattle.session_model.specs.declared.settings.Settings.{Settings};
-ghost use Rattle.mirror_model.specs.Laws.{AnswersAsPeer, AnswersByState, WholeByTest, StepsAsHandled, Grows};
+ghost use Rattle.mirror_model.specs.Laws.{AnswersAsPeer, AnswersByState, OutputAsPeer, WholeByTest, StepsAsHandled, Grows};
 
 /// Wherever a mirror has a table in force, it is its peer's table there, as long as the peer is honest.
 pub fn converges<T, K, V>()
@@ -59,6 +59,12 @@ pub fn answers_by_state<M>()
 /// A look-up that isn't stale answers by the peer's own tables, as long as the peer is honest.
 pub fn answers_as_peer<M>()
     ensures { (r : Readers M) → AnswersAsPeer r }
+{}
+
+/// The text of records is that in which the peer's own tables answer wherever a mirror is in step, as long as the peer is
+/// honest.
+pub fn output_as_peer<M>()
+    ensures { (r : Readers M) (f : Format M) → OutputAsPeer r f }
 {}
 
 /// The answer is a route that may answer, with none better that may; or none may.

@@ -17,8 +17,8 @@ mod route;
 pub use answer::Answer;
 pub use laws::{
     answers_as_peer, answers_best, answers_by_state, blocks_by_steps, converges, converges_exactly,
-    converges_in_sessions, ignores_others, is_afresh, output_grows, steps_as_handled,
-    suits_sessions, whole_by_test,
+    converges_in_sessions, ignores_others, is_afresh, output_as_peer, output_grows,
+    steps_as_handled, suits_sessions, whole_by_test,
 };
 pub use route::Route;
 pub use session_model::{Address, Network};
