@@ -1,3 +1,4 @@
 pub mod Io
 pub mod Memory
+pub mod Plain
 pub mod StdIo

@@ -3,6 +3,7 @@
 #![tactic(auto)]
 
 mod memory;
+mod plain;
 mod sink;
 mod source;
 mod std_io;
@@ -10,6 +11,7 @@ mod std_io;
 mod tests;
 
 pub use memory::{MemorySink, MemorySource};
+pub use plain::{BytesSource, NullSink};
 pub use sink::{Sink, WriteError, Wrote, write_all};
 pub use source::{Read, Source};
 pub use std_io::{StdSink, StdSource};

@@ -175,9 +175,9 @@ fn copy_front(into: &mut [u8], from: &[u8])
     into[..from.len()].copy_from_slice(from);
 }
 
-// Copies the n bytes at a place to the front of a buffer.
+/// Copies the n bytes at a place to the front of a buffer.
 #[tactic(auto, using(crate::proofs::Pieces::piece_taken))]
-fn copy_piece(into: &mut [u8], bytes: &[u8], at: usize, n: usize)
+pub fn copy_piece(into: &mut [u8], bytes: &[u8], at: usize, n: usize)
     requires within { at + n ≤ length bytes.now }
     requires fits { n ≤ length into.old }
     ensures { drop at bytes.now ≡ take n into.new ++ drop (at + n) bytes.now }

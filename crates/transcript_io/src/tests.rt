@@ -2,7 +2,8 @@
 ghost use Rattle.std.specs.Prelude.{◌≤◌};
 
 use crate::{
-    MemorySink, MemorySource, Read, Sink, Source, StdSink, StdSource, WriteError, Wrote, write_all,
+    BytesSource, MemorySink, MemorySource, NullSink, Read, Sink, Source, StdSink, StdSource,
+    WriteError, Wrote, write_all,
 };
 use std::io::{self, ErrorKind};
 use std::test::Fail;
@@ -28,6 +29,18 @@ fn memory_moves_pieces(rt: HostRuntime) -> Result<(), Fail> {
     assert_eq!(rt; write_all(&mut out, b"xyz"), Ok(()));
     assert_eq!(rt; write_all(&mut out, b"uvw"), Err(WriteError::Failed));
     assert_eq!(rt; out.bytes(), b"xyzuv".as_slice());
+    Ok(())
+}
+
+#[test]
+fn plain_ones_move_all(rt: HostRuntime) -> Result<(), Fail> {
+    let mut input = BytesSource::new(b"abcd".to_vec(rt.alloc())?);
+    let mut buffer = [0; 3];
+    for want in [Read::Got(3), Read::Got(1), Read::End] {
+        assert_eq!(rt; input.read(&mut buffer), want);
+    }
+    assert_eq!(rt; buffer.as_slice(), b"dbc".as_slice());
+    assert_eq!(rt; write_all(&mut NullSink, b"xyz"), Ok(()));
     Ok(())
 }
 

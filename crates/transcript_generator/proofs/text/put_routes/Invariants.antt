@@ -1,0 +1,7 @@
+use Rattle.std.proofs.Common.{◌≡◌, ◌++◌, map}
+use Rattle.session_model.specs.Transcript.{lines_of}
+use Rattle.transcript_generator.specs.Generated.{numbers, route_record}
+use Rattle.transcript_generator.proofs.text.put_routes.Given as goal
+
+abbrev pub invariant-loop-i : goal.invariant-loop-i
+invariant-loop-i l = l.text.items ≡ l.initial.text.items ++ lines_of (map route_record (numbers l.i))
