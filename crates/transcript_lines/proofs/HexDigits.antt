@@ -1,16 +1,12 @@
 -- How the spelling of bytes goes on.
 use Rattle.std.proofs.Common.{◌≡◌, ◌≢◌, ◌+◌, ◌*◌, ◌/◌, ◌%◌, ◌<◌, ◌≤◌, ◌==◌, nat_lt, cond, ℕ, Bool, true, false, List, [], ◌∷◌, ◌++◌, length, flat_map, refl, sym, ◌∙◌, ap, subst, arith, append_assoc, append-nil, length-append}
-use Rattle.std.specs.List.{AllByRecursion}
 use Rattle.std.proofs.lemmas.Bool.Decides.{nat_tests}
 use Rattle.session_model.specs.Lines.{hex_digit, hex_byte, hex_word}
 use Rattle.session_model.specs.Transcript.{AreBytes}
 use Rattle.transcript_lines.specs.Bytes.{BeginsNoBytes, ReadsAt}
-use Rattle.transcript_lines.specs.declared.bytes.Fed.{Fed}
-use Rattle.transcript_lines.specs.declared.bytes.Fed.TheVariants.{Begin, Dash, Whole, Half, Bad}
-
--- Each is a digit.
-abbrev pub AreDigits : List ℕ → Type 0
-AreDigits w = AllByRecursion (λ b. (v : ℕ) × (v < 16) × (b ≡ hex_digit v)) w
+use Rattle.transcript_lines.specs.Digits.{AreDigits}
+use Rattle.transcript_lines.specs.declared.bytes.Last.{Last}
+use Rattle.transcript_lines.specs.declared.bytes.Last.TheVariants.{Begin, Dash, Whole, Half, Bad}
 
 -- The spelling of bytes is digits.
 pub digits_in : (bytes : List ℕ) → AreBytes bytes → AreDigits (flat_map hex_byte bytes)
@@ -102,11 +98,13 @@ odd w bytes v is (c ∷ own) h e =
     let b = twice (c ∷ own) in
     omega (arith, l, a, b, length-append (flat_map hex_byte bytes) (hex_digit v ∷ []))
 
-flat_one : (bytes : List ℕ) (b : ℕ) → flat_map hex_byte (bytes ++ b ∷ []) ≡ flat_map hex_byte bytes ++ hex_byte b
+-- One byte more is two digits more.
+pub flat_one : (bytes : List ℕ) (b : ℕ) → flat_map hex_byte (bytes ++ b ∷ []) ≡ flat_map hex_byte bytes ++ hex_byte b
 flat_one [] b = refl
 flat_one (c ∷ bytes) b = ap (λ z. hex_digit (c / 16) ∷ hex_digit (c % 16) ∷ z) (flat_one bytes b)
 
-are_more : (bytes : List ℕ) (b : ℕ) → AreBytes bytes → b < 256 → AreBytes (bytes ++ b ∷ [])
+-- One byte more.
+pub are_more : (bytes : List ℕ) (b : ℕ) → AreBytes bytes → b < 256 → AreBytes (bytes ++ b ∷ [])
 are_more [] b h k = (k, tt)
 are_more (c ∷ bytes) b h k = (h.0, are_more bytes b h.1 k)
 
@@ -130,7 +128,7 @@ second w bytes now high v is small low each got =
 -- A reader at any place.
 
 -- A reader holds at most half as many bytes as it was fed.
-pub fits_half : (w bytes : List ℕ) (last : Fed) → ReadsAt w bytes last → length bytes * 2 ≤ length w
+pub fits_half : (w bytes : List ℕ) (last : Last) → ReadsAt w bytes last → length bytes * 2 ≤ length w
 fits_half w bytes Begin r = let l : length bytes ≡ 0 = ap length r.1 in omega (arith, l)
 fits_half w bytes Dash r = let l : length bytes ≡ 0 = ap length r.1 in omega (arith, l)
 fits_half w bytes Whole r = let l : length w ≡ length (flat_map hex_byte bytes) = ap length r.0 in omega (arith, l, twice bytes)
@@ -140,11 +138,11 @@ fits_half w bytes (Half high) r =
 fits_half w bytes Bad r = r.1
 
 -- A reader holds at most half as many bytes as it was fed with one more.
-pub fits_more : (w bytes : List ℕ) (last : Fed) (b : ℕ) → ReadsAt w bytes last → length bytes * 2 ≤ length (w ++ b ∷ [])
+pub fits_more : (w bytes : List ℕ) (last : Last) (b : ℕ) → ReadsAt w bytes last → length bytes * 2 ≤ length (w ++ b ∷ [])
 fits_more w bytes place b r = omega (arith, fits_half w bytes place r, length-append w (b ∷ []))
 
 -- A reader that was last fed neither a dash nor a second digit was fed no spelling.
-pub no_end : (w bytes : List ℕ) (last : Fed) → ReadsAt w bytes last → last ≢ Dash → last ≢ Whole → (own : List ℕ) → AreBytes own → w ≢ hex_word own
+pub no_end : (w bytes : List ℕ) (last : Last) → ReadsAt w bytes last → last ≢ Dash → last ≢ Whole → (own : List ℕ) → AreBytes own → w ≢ hex_word own
 no_end w bytes Begin r d h = empty w r.0
 no_end w bytes Dash r d h = absurd (d refl)
 no_end w bytes Whole r d h = absurd (h refl)
@@ -152,7 +150,7 @@ no_end w bytes (Half high) r d h = odd w bytes high r.0
 no_end w bytes Bad r d h = none w r.0
 
 -- A dash after anything begins no spelling.
-pub dashed : (w bytes : List ℕ) (last : Fed) (b : ℕ) → b ≡ 45 → ReadsAt w bytes last → last ≢ Begin → BeginsNoBytes (w ++ b ∷ [])
+pub dashed : (w bytes : List ℕ) (last : Last) (b : ℕ) → b ≡ 45 → ReadsAt w bytes last → last ≢ Begin → BeginsNoBytes (w ++ b ∷ [])
 dashed w bytes Begin b is r h = absurd (h refl)
 dashed w bytes Dash b is r h = after_dash w b r.0
 dashed w bytes Whole b is r h =
@@ -164,7 +162,7 @@ dashed w bytes (Half high) b is r h =
 dashed w bytes Bad b is r h = stays w b r.0
 
 -- A dash alone goes on from nothing; no other byte that is no digit goes on from anywhere.
-pub no_other : (w bytes : List ℕ) (last : Fed) (b : ℕ) → ((v : ℕ) → v < 16 → b ≢ hex_digit v) → (last ≡ Begin → b ≢ 45) → ReadsAt w bytes last
+pub no_other : (w bytes : List ℕ) (last : Last) (b : ℕ) → ((v : ℕ) → v < 16 → b ≢ hex_digit v) → (last ≡ Begin → b ≢ 45) → ReadsAt w bytes last
     → BeginsNoBytes (w ++ b ∷ []) × (length bytes * 2 ≤ length (w ++ b ∷ []))
 no_other w bytes place b digit begun r = (by (b == 45) refl, fits_more w bytes place b r)
   where

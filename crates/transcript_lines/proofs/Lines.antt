@@ -24,7 +24,8 @@ use Rattle.transcript_lines.specs.Words.{words_of}
 use Rattle.session_model.specs.Causes.{IsNoRecord}
 use Rattle.transcript_lines.specs.Line.{IsRecordOf}
 use Rattle.transcript_lines.proofs.Decimals.{decimal_digits}
-use Rattle.transcript_lines.proofs.HexDigits.{AreDigits, digits_in, above_dash}
+use Rattle.transcript_lines.proofs.HexDigits.{digits_in, above_dash}
+use Rattle.transcript_lines.specs.Digits.{AreDigits}
 use Rattle.transcript_lines.proofs.Octets.{octets_bytes}
 use Rattle.transcript_lines.proofs.Splits.{IsWord, words_joined, joined_words}
 
@@ -106,7 +107,8 @@ printed_words : (words : List (List ℕ)) → AllByRecursion IsPrinted words →
 printed_words [] h = tt
 printed_words (word ∷ words) h = (printed_word word h.0, printed_words words h.1)
 
-record_is_words : (r : Record) → IsSpelled r → AllByRecursion IsWord (record_words r)
+-- No word of a record has a space.
+pub record_is_words : (r : Record) → IsSpelled r → AllByRecursion IsWord (record_words r)
 record_is_words r h = printed_words (record_words r) (record_printed r h)
 
 -- A record's line comes apart into the record's words.

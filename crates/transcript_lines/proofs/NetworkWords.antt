@@ -19,7 +19,8 @@ use Rattle.transcript_lines.specs.declared.network.Family.TheVariants as familie
 use Rattle.transcript_lines.specs.Network.{AreOctetsOf, HasNoSlash, IsHostOf, IsNetworkAt, IsNetworkOf, count_in, word_of}
 use Rattle.transcript_lines.proofs.Candidates.{bytes_back, bytes_of}
 use Rattle.transcript_lines.proofs.Decimals.{number_after, value_of}
-use Rattle.transcript_lines.proofs.HexDigits.{AreDigits, above_dash, digits_in}
+use Rattle.transcript_lines.proofs.HexDigits.{above_dash, digits_in}
+use Rattle.transcript_lines.specs.Digits.{AreDigits}
 use Rattle.transcript_lines.proofs.Octets.{octets_bytes, octets_injective, octets_length, octets_of_v4, octets_of_v6}
 
 -- ---- a slash

@@ -72,7 +72,8 @@ pub words_more : (frames : List BatchFrame) (frame : BatchFrame) (left : List (L
 words_more [] frame left = refl
 words_more (g ∷ frames) frame left = ap (λ z. frame_word g ∷ z) (words_more frames frame left)
 
-word_length : (bytes : List ℕ) → length bytes * 2 ≤ length (hex_word bytes)
+-- A word has two digits a byte at least.
+pub word_length : (bytes : List ℕ) → length bytes * 2 ≤ length (hex_word bytes)
 word_length [] = omega arith
 word_length (b ∷ bytes) = let t = twice (b ∷ bytes) in omega (arith, t)
 

@@ -2,15 +2,15 @@
 use Rattle.std.specs.Prelude.{◌≡◌, ◌≢◌, ◌<◌, ◌≤◌, ◌*◌, ℕ, List, [], ◌∷◌, ◌++◌, length, flat_map, Option, Some, None}
 use Rattle.session_model.specs.Lines.{dash, hex_digit, hex_byte, hex_word}
 use Rattle.session_model.specs.Transcript.{AreBytes}
-use Rattle.transcript_lines.specs.declared.bytes.Fed.{Fed}
-use Rattle.transcript_lines.specs.declared.bytes.Fed.TheVariants.{Begin, Dash, Whole, Half, Bad}
+use Rattle.transcript_lines.specs.declared.bytes.Last.{Last}
+use Rattle.transcript_lines.specs.declared.bytes.Last.TheVariants.{Begin, Dash, Whole, Half, Bad}
 
 -- No bytes have a spelling that begins like this.
 abbrev pub BeginsNoBytes : List ℕ → Type 0
 BeginsNoBytes fed = (more bytes : List ℕ) → AreBytes bytes → fed ++ more ≢ hex_word bytes
 
 -- A reader that holds these bytes, and was last fed such a byte, was fed exactly this.
-abbrev pub ReadsAt : List ℕ → List ℕ → Fed → Type 0
+abbrev pub ReadsAt : List ℕ → List ℕ → Last → Type 0
 ReadsAt fed bytes Begin = (fed ≡ []) × (bytes ≡ [])
 ReadsAt fed bytes Dash = (fed ≡ dash ∷ []) × (bytes ≡ [])
 ReadsAt fed bytes Whole = (fed ≡ flat_map hex_byte bytes) × (0 < length bytes) × AreBytes bytes
@@ -22,11 +22,6 @@ abbrev pub AreBytesOf : List ℕ → Option (List ℕ) → Type 0
 AreBytesOf word (Some bytes) = AreBytes bytes × (word ≡ hex_word bytes)
 AreBytesOf word None = (bytes : List ℕ) → AreBytes bytes → word ≢ hex_word bytes
 
--- This is the value of a hex digit, and None where the byte is none.
-abbrev pub IsDigitOf : ℕ → Option ℕ → Type 0
-IsDigitOf byte (Some value) = (value < 16) × (byte ≡ hex_digit value)
-IsDigitOf byte None = (value : ℕ) → value < 16 → byte ≢ hex_digit value
-
 -- A first digit that waits for its second is below 16.
-abbrev pub IsHalfSmall : Fed → Type 0
+abbrev pub IsHalfSmall : Last → Type 0
 IsHalfSmall last = (high : ℕ) → last ≡ Half high → high < 16

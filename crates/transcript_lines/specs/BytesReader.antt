@@ -5,7 +5,7 @@ use Rattle.transcript_lines.specs.declared.bytes.BytesReader.{BytesReader}
 
 -- The reader was fed exactly this.
 abbrev pub ReadsBytes : List ℕ → BytesReader → Type 0
-ReadsBytes fed reader = ReadsAt fed reader.bytes reader.last
+ReadsBytes fed reader = ReadsAt fed reader.bytes.items reader.last
 
 -- Whatever a reader was fed, it was fed these bytes more.
 abbrev pub FeedsBytes : BytesReader → List ℕ → BytesReader → Type 0

@@ -1,8 +1,13 @@
 pub mod Number
+pub mod Digits
 pub mod Bytes
 pub mod BytesReader
+pub mod Cut
 pub mod Words
 pub mod Network
 pub mod Line
+pub mod Decoding
+pub mod OpenLine
+pub mod LineDecoder
 pub mod Spelling
 pub mod Handed

@@ -1,5 +1,5 @@
 -- Which address and which network words spell.
-use Rattle.std.specs.Prelude.{◌≡◌, ◌≢◌, ◌==◌, ℕ, false, List, [], ◌∷◌, ◌++◌, codes, Option, Some, None}
+use Rattle.std.specs.Prelude.{◌≡◌, ◌≢◌, ◌==◌, ℕ, false, List, [], ◌∷◌, codes, Option, Some, None}
 use Rattle.std.specs.Borrow.{Bor}
 use Rattle.std.specs.List.{All}
 use Rattle.session_model.specs.declared.network.Address.{Address}
@@ -31,11 +31,6 @@ AreTwoWords words None = (first second : List ℕ) → words ≢ first ∷ secon
 -- No byte is a slash.
 abbrev pub HasNoSlash : List ℕ → Type 0
 HasNoSlash word = All (λ b. (b == slash) ≡ false) word
-
--- These stand before and after the first slash, and None where there is none.
-abbrev pub IsCutAtSlash : List ℕ → Option (Bor (List ℕ) × Bor (List ℕ)) → Type 0
-IsCutAtSlash word (Some parts) = HasNoSlash parts.0.now × (word ≡ parts.0.now ++ slash ∷ parts.1.now)
-IsCutAtSlash word None = HasNoSlash word
 
 -- This is the address of the family with these octets, and None where no address of the family has them.
 abbrev pub AreOctetsOf : List ℕ → List ℕ → Option Address → Type 0

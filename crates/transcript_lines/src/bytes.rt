@@ -1,14 +1,15 @@
 //! Bytes, in two lower-case hex digits each, and `-` for no bytes.
-ghost use Rattle.std.specs.Prelude.{List, ℕ, ◌++◌, ◌∷◌, [], ◌+◌, ◌*◌, ◌≤◌, ◌<◌, ◌≡◌, ◌≢◌, IfOk, OnOk, length};
+ghost use Rattle.std.specs.Prelude.{List, ℕ, ◌++◌, ◌∷◌, [], ◌+◌, ◌*◌, ◌%◌, ◌≤◌, ◌<◌, ◌≡◌, ◌≢◌, ◌↔◌, IfOk, IsTrue, OnOk, length};
 ghost use Rattle.session_model.specs.Lines.{hex_digit};
-ghost use Rattle.transcript_lines.specs.Bytes.{ReadsAt, AreBytesOf, IsDigitOf, IsHalfSmall};
+ghost use Rattle.transcript_lines.specs.Bytes.{ReadsAt, AreBytesOf, IsHalfSmall};
 
+use crate::digits::{decode_pairs, digit_value};
 use nl_core::{NoMemory, Octets};
 use std::alloc::Global;
 
 // What was fed last.
 #[derive(Clone, Copy, PartialEq, Eq)]
-pub(crate) enum Fed {
+pub(crate) enum Last {
     // Nothing was fed yet.
     Begin,
     // A dash alone.
@@ -24,20 +25,9 @@ pub(crate) enum Fed {
 /// What a reader made of the hex digits that it was fed: the bytes so far, and whether a digit is left over.
 #[derive(Drop)]
 pub struct BytesReader {
-    last: Fed,
-    bytes: Octets,
+    last: Last,
+    bytes: Vec<u8>,
     ghost half_small: { IsHalfSmall last },
-}
-
-// The value of a lower-case hex digit.
-fn digit_value(byte: u8) -> Option<u8>
-    ensures { IsDigitOf byte result }
-{
-    match byte {
-        b'0'..=b'9' => Some(byte - b'0'),
-        b'a'..=b'f' => Some(byte - b'a' + 10),
-        _ => None,
-    }
 }
 
 impl BytesReader {
@@ -48,8 +38,8 @@ impl BytesReader {
         ensures { ReadsBytes [] result }
     {
         BytesReader {
-            last: Fed::Begin,
-            bytes: Octets::new(alloc),
+            last: Last::Begin,
+            bytes: Vec::new(alloc),
         }
     }
 
@@ -57,10 +47,9 @@ impl BytesReader {
     pub(crate) fn with_capacity(alloc: Global, count: usize) -> Result<Self, NoMemory>
         ensures { IfOk result (ReadsBytes []) }
     {
-        let bytes = Vec::with_capacity(alloc, count)?;
         Ok(BytesReader {
-            last: Fed::Begin,
-            bytes: Octets::from_vec(bytes),
+            last: Last::Begin,
+            bytes: Vec::with_capacity(alloc, count)?,
         })
     }
 
@@ -70,15 +59,15 @@ impl BytesReader {
         ensures { OnOk result (FeedsBytes self.old (hex_digit value ∷ []) self.new) }
     {
         match self.last {
-            Fed::Begin | Fed::Whole => {
-                self.last = Fed::Half { high: value };
+            Last::Begin | Last::Whole => {
+                self.last = Last::Half { high: value };
             }
-            Fed::Half { high } => {
+            Last::Half { high } => {
                 self.bytes.push(high * 16 + value)?;
-                self.last = Fed::Whole;
+                self.last = Last::Whole;
             }
-            Fed::Dash | Fed::Bad => {
-                self.last = Fed::Bad;
+            Last::Dash | Last::Bad => {
+                self.last = Last::Bad;
             }
         }
         Ok(())
@@ -90,11 +79,11 @@ impl BytesReader {
         ensures { FeedsBytes self.old (byte ∷ []) self.new }
     {
         match self.last {
-            Fed::Begin if byte == b'-' => {
-                self.last = Fed::Dash;
+            Last::Begin if byte == b'-' => {
+                self.last = Last::Dash;
             }
             _ => {
-                self.last = Fed::Bad;
+                self.last = Last::Bad;
             }
         }
     }
@@ -103,13 +92,41 @@ impl BytesReader {
     fn take(&mut self, byte: u8) -> Result<(), NoMemory>
         ensures { OnOk result (FeedsBytes self.old (byte ∷ []) self.new) }
     {
-        match digit_value(byte) {
-            Some(value) => self.digit(value),
-            None => {
-                self.other(byte);
-                Ok(())
-            }
+        let value = digit_value(byte);
+        if value < 16 {
+            return self.digit(value);
         }
+        self.other(byte);
+        Ok(())
+    }
+
+    // Takes bytes one by one.
+    fn take_each(&mut self, piece: &[u8]) -> Result<(), NoMemory>
+        ensures { OnOk result (FeedsBytes self.old piece.now self.new) }
+    {
+        for byte in piece {
+            self.take(*byte)?;
+        }
+        Ok(())
+    }
+
+    // Takes pairs of digits, all at once where no digit waits for its second.
+    fn take_pairs(&mut self, digits: &[u8]) -> Result<(), NoMemory>
+        requires { length digits.now % 2 ≡ 0 }
+        ensures { OnOk result (FeedsBytes self.old digits.now self.new) }
+    {
+        if digits.is_empty() || !matches!(self.last, Last::Begin | Last::Whole) {
+            return self.take_each(digits);
+        }
+        let held = self.bytes.len();
+        self.bytes.resize(held + digits.len() / 2, 0)?;
+        let bytes = &mut self.bytes.as_mut_slice()[held..];
+        self.last = if decode_pairs(digits, bytes) {
+            Last::Whole
+        } else {
+            Last::Bad
+        };
+        Ok(())
     }
 
     /// The reader after one more piece.
@@ -117,10 +134,20 @@ impl BytesReader {
         ensures { IfOk result (FeedsBytes self piece.now) }
     {
         let mut reader = self;
-        for byte in piece {
-            reader.take(*byte)?;
-        }
+        let waiting = usize::from(matches!(reader.last, Last::Half { .. }));
+        let (second, others) = piece.split_at(waiting.min(piece.len()));
+        let (pairs, first) = others.split_at(others.len() - others.len() % 2);
+        reader.take_each(second)?;
+        reader.take_pairs(pairs)?;
+        reader.take_each(first)?;
         Ok(reader)
+    }
+
+    /// Whether no bytes' spelling begins like what was fed.
+    pub(crate) fn is_bad(&self) -> bool
+        ensures { IsTrue result ↔ (self.now.last ≡ Last.Bad) }
+    {
+        matches!(self.last, Last::Bad)
     }
 
     /// The bytes that were fed, and `None` where what was fed is not the spelling of any.
@@ -128,14 +155,14 @@ impl BytesReader {
         ensures { (fed : List ℕ) → ReadsBytes fed self → AreBytesOf fed result }
     {
         match self.last {
-            Fed::Dash | Fed::Whole => Some(self.bytes),
+            Last::Dash | Last::Whole => Some(Octets::from_vec(self.bytes)),
             _ => None,
         }
     }
 
     /// How many bytes are held: at most half as many as were fed.
     pub fn held(&self) -> usize
-        ensures count { result ≡ length self.now.bytes }
+        ensures count { result ≡ length self.now.bytes.items }
         ensures half { (fed : List ℕ) → ReadsBytes fed self.now → result * 2 ≤ length fed }
     {
         self.bytes.len()

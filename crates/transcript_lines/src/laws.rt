@@ -5,6 +5,7 @@ ghost use Rattle.session_model.specs.Inner.{format_of};
 ghost use Rattle.session_model.specs.Transcript.{IsRecord};
 ghost use Rattle.session_model.specs.declared.settings.Settings.{Settings};
 ghost use Rattle.transcript_lines.specs.Line.{SpellingIsInjective};
+ghost use Rattle.transcript_lines.specs.LineDecoder.{PiecesAgree};
 
 use nl_core::{NetlinkDeserializable, NetlinkSerializable};
 
@@ -18,4 +19,9 @@ pub fn one_record()
 pub fn every_input_has_an_outcome<T: NetlinkSerializable + NetlinkDeserializable>()
     ensures { (s : Settings) (input : List ℕ) →
         HasOutcome (format_of T.reads T.kind T.text T.fitting) s (IsRecord T.reads) input }
+{}
+
+/// A line that is fed to a fresh decoder in pieces gives one answer, whatever the pieces are.
+pub fn pieces_agree<T: NetlinkDeserializable>()
+    ensures { PiecesAgree T T.reads }
 {}

@@ -3,11 +3,18 @@
 //! Each record has one line, and a line that no record has is reported as none.
 #![tactic(auto)]
 
+mod batch_reader;
 mod bytes;
+mod cut;
+mod datagram_reader;
+mod decoder;
+mod digits;
+mod frame_word;
 mod laws;
 mod line;
 mod network;
 mod number;
+mod open_line;
 mod record;
 mod session_text;
 mod spelling;
@@ -16,7 +23,8 @@ mod tests;
 mod words;
 
 pub use bytes::BytesReader;
-pub use laws::{every_input_has_an_outcome, one_record};
+pub use decoder::{Fed, Line, LineDecoder};
+pub use laws::{every_input_has_an_outcome, one_record, pieces_agree};
 pub use number::NumberReader;
 pub use record::read_record;
 pub use session_text::{put_closed, put_incoming, put_outgoing, put_reply};

@@ -15,7 +15,7 @@ use session_model::{BatchFrame, Mark, Record, SocketAddr};
 use std::alloc::Global;
 
 // The most bytes of a datagram that a line spells.
-const LONGEST_DATAGRAM: usize = 65_536;
+pub(crate) const LONGEST_DATAGRAM: usize = 65_536;
 
 // Which form a record has, by its first word.
 #[derive(Clone, Copy, PartialEq, Eq)]
@@ -30,7 +30,7 @@ pub(crate) enum Kind {
     Lookup,
 }
 
-fn kind_of(word: &[u8]) -> Option<Kind>
+pub(crate) fn kind_of(word: &[u8]) -> Option<Kind>
     ensures { IsKindOf word.now result }
 {
     match word {
@@ -46,7 +46,7 @@ fn kind_of(word: &[u8]) -> Option<Kind>
     }
 }
 
-fn mark_of(letter: u8) -> Option<Mark>
+pub(crate) fn mark_of(letter: u8) -> Option<Mark>
     ensures { IsMarkOf letter result }
 {
     match letter {
@@ -55,6 +55,15 @@ fn mark_of(letter: u8) -> Option<Mark>
         b'n' => Some(Mark::NotExpected),
         _ => None,
     }
+}
+
+// The address that two words spell.
+pub(crate) fn address_of(port: &[u8], groups: &[u8]) -> Option<SocketAddr>
+    ensures { IsAddressOf (port.now ∷ groups.now ∷ []) result [] }
+{
+    let port = read_number(port)?;
+    let groups = read_number(groups)?;
+    Some(SocketAddr { port, groups })
 }
 
 // The address that the next two words spell.

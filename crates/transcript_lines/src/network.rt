@@ -2,11 +2,12 @@
 ghost use Rattle.std.specs.Prelude.{◌≡◌, ◌∷◌, [], ◌<◌, ◌≤◌, ◌^◌, IfOk, length};
 ghost use Rattle.std.specs.Int.{bytes_high_first};
 ghost use Rattle.session_model.specs.Networks.{IsHost};
-ghost use Rattle.transcript_lines.specs.Network.{IsFamilyOf, AreTwoWords, IsCutAtSlash, count_in, word_of};
+ghost use Rattle.transcript_lines.specs.Network.{IsFamilyOf, AreTwoWords, count_in, word_of};
 ghost use Rattle.transcript_lines.specs.Network.{AreOctetsOf, IsHostOf, IsNetworkOf, IsNetworkAt};
 ghost use Rattle.transcript_lines.specs.Words.{words_left};
 
 use crate::bytes::read_bytes;
+use crate::cut::cut_at;
 use crate::number::read_number;
 use crate::words::Words;
 use nl_core::NoMemory;
@@ -51,18 +52,6 @@ fn two_words<'a>(words: Words<'a>) -> Option<(&'a [u8], &'a [u8])>
         return None;
     }
     Some((first, second))
-}
-
-// What a word has before and after its first slash.
-fn cut_at_slash(word: &[u8]) -> Option<(&[u8], &[u8])>
-    ensures { IsCutAtSlash word.now result }
-{
-    for (at, byte) in word.iter().enumerate() {
-        if *byte == b'/' {
-            return Some((&word[..at], &word[at + 1..]));
-        }
-    }
-    None
 }
 
 // The number of octets, the highest first.
@@ -134,7 +123,7 @@ pub(crate) fn read_network(alloc: Global, words: Words) -> Result<Option<Network
     let Some((family, word)) = two_words(words) else {
         return Ok(None);
     };
-    let Some((digits, length)) = cut_at_slash(word) else {
+    let Some((digits, length)) = cut_at(word, b'/') else {
         return Ok(None);
     };
     let Some(length) = read_number(length) else {

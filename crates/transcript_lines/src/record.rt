@@ -39,7 +39,7 @@ fn are_whole_frames<T: NetlinkDeserializable + Drop>(
 }
 
 // Whether each frame of a record can be read.
-fn has_whole_frames<T: NetlinkDeserializable + Drop>(
+pub(crate) fn has_whole_frames<T: NetlinkDeserializable + Drop>(
     alloc: Global,
     entry: &Record,
 ) -> Result<bool, NoMemory>

@@ -1,8 +1,8 @@
 //! Lines with the records that they spell, lines that spell none, and lines that are written.
 use super::line::spelled_record;
 use super::{
-    BytesReader, NumberReader, Word, every_input_has_an_outcome, one_record, put_closed,
-    put_incoming, put_line, put_outgoing, put_reply, read_record,
+    BytesReader, Line, LineDecoder, NumberReader, Word, every_input_has_an_outcome, one_record,
+    pieces_agree, put_closed, put_incoming, put_line, put_outgoing, put_reply, read_record,
 };
 use nl_core::{Items, NetlinkHeader, NetlinkMessage, NetlinkPayload, NoMemory, Octets, RawMessage};
 use proto_core::{Incoming, Outgoing, Response};
@@ -189,7 +189,32 @@ fn bounds_datagrams(rt: HostRuntime) -> Result<(), Fail> {
             is_read,
             "at {count}"
         );
+        let is_told = decoded(rt.alloc(), &line, 4096)? != Some(Line::Bad);
+        assert_eq!(rt;
+            is_told,
+            is_read && head.len() == datagram.len(),
+            "at {count}"
+        );
     }
+    Ok(())
+}
+
+// Pieces end inside a byte's digits, and one has the end of a line and the beginning of the next.
+#[test]
+fn keeps_decoded_bytes(rt: HostRuntime) -> Result<(), Fail> {
+    pieces_agree::<RawMessage>();
+    let mut decoder = LineDecoder::<RawMessage>::new(rt.alloc());
+    assert!(rt; !decoder.begun());
+    assert_eq!(rt; decoder.feed(b"recv 0 0 0a1b2")?.took, 14);
+    assert!(rt; decoder.begun());
+    assert_eq!(rt; decoder.held(), 2);
+    let fed = decoder.feed(b"c\nclose")?;
+    assert_eq!(rt; fed.took, 2);
+    let datagram = record(rt.alloc(), Recv(0, 0, b"\x0a\x1b\x2c"))?;
+    assert!(rt; fed.line == datagram.map(Line::Record));
+    assert!(rt; !decoder.begun());
+    assert_eq!(rt; decoder.held(), 0);
+    drop(decoder);
     Ok(())
 }
 
@@ -206,6 +231,37 @@ fn reads_pieces(rt: HostRuntime) -> Result<(), Fail> {
     let read = BytesReader::new(rt.alloc()).feed(b"c")?.feed(b"0de")?.end();
     assert!(rt; read == Some(octets(rt.alloc(), b"\xc0\xde")?));
     drop(reader);
+    Ok(())
+}
+
+// What a decoder tells of a line that comes in pieces of so many bytes.
+fn decoded(alloc: Global, line: &[u8], size: usize) -> Result<Option<Line>, NoMemory>
+    requires { 0 < size }
+{
+    let mut decoder = LineDecoder::<RawMessage>::new(alloc);
+    for piece in line.chunks(size) {
+        let fed = decoder.feed(piece)?;
+        if fed.line.is_some() {
+            return Ok(None);
+        }
+    }
+    Ok(decoder.feed(b"\n")?.line)
+}
+
+// A line is told as it is read, in pieces of each size: one ends inside each word.
+#[test]
+fn decodes_pieces(rt: HostRuntime) -> Result<(), Fail> {
+    for (line, _) in LINES.iter() {
+        for size in 1..70usize {
+            let told = decoded(rt.alloc(), line, size)?;
+            let expected = match read_record::<RawMessage>(rt.alloc(), line)? {
+                Some(entry) => Line::Record(entry),
+                None => Line::Bad,
+            };
+            let is_cut = line.contains(&b'\n');
+            assert!(rt; is_cut || told == Some(expected), "at {line:?}");
+        }
+    }
     Ok(())
 }
 

@@ -4,6 +4,8 @@ ghost use Rattle.std.specs.Option.{option_map_or};
 ghost use Rattle.std.specs.Iterator.{item_count, YieldsFirstRef};
 ghost use Rattle.transcript_lines.specs.Words.{words_of, words_left};
 
+use crate::cut::cut_at;
+
 /// The words of a line, in order. A line of no bytes is one word of none.
 #[derive(Drop)]
 pub(crate) struct Words<'a> {
@@ -37,10 +39,8 @@ impl<'a> Iterator for Words<'a> {
 fn split_first_word(line: &[u8]) -> (&[u8], Option<&[u8]>)
     ensures { words_of line.now ≡ result.0.now ∷ option_map_or (λ rest. words_of rest.now) result.1 [] }
 {
-    for (at, byte) in line.iter().enumerate() {
-        if *byte == b' ' {
-            return (&line[..at], Some(&line[at + 1..]));
-        }
+    match cut_at(line, b' ') {
+        Some((word, after)) => (word, Some(after)),
+        None => (line, None),
     }
-    (line, None)
 }

@@ -1,14 +1,11 @@
-use Rattle.std.proofs.Common.{arith}
+use Rattle.std.proofs.Common.{subst}
 use Rattle.transcript_lines.specs.BytesReader.{ReadsBytes}
-use Rattle.transcript_lines.proofs.Pieces.{begins, goes_on, ends}
+use Rattle.transcript_lines.proofs.Pieces.{three_parts}
 use Rattle.transcript_lines.proofs.bytes.BytesReader.feed.Goals as goal
 
-pub loop-byte-init : goal.loop-byte-init
-loop-byte-init c fed r = begins (λ w. ReadsBytes w c.args.self) fed c.args.piece.now r
-
-pub loop-byte-preserved : goal.loop-byte-preserved
-loop-byte-preserved c fed r =
-    goes_on (λ w. ReadsBytes w c.take.new.self) fed c.args.piece.now c.loop-byte.byte-index (omega arith) (c.in_ok-take.ensures _ (c.loop-byte.invariant fed r))
-
 pub returns : goal.returns
-returns c fed r = ends (λ w. ReadsBytes w c.loop-byte.reader) fed c.args.piece.now c.loop-byte.byte-index (omega arith) (c.loop-byte.invariant fed r)
+returns c fed r =
+    let front = c.split_at.ensures in
+    let back = c.split_at-2.ensures in
+    subst (λ z. ReadsBytes z c.take_each-2.new.self) (three_parts fed c.args.piece.now _ _ _ _ _ _ front.front front.back back.front back.back)
+    (c.in_ok-take_each-2.ensures _ (c.in_ok-take_pairs.ensures _ (c.in_ok-take_each.ensures fed r)))
