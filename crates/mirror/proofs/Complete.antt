@@ -16,7 +16,7 @@ use Rattle.mirror.specs.Format.{IsEntry, format}
 use Rattle.mirror.specs.Outcome.{EndsBy, EndsByCause, IsComplete, IsNoCause, WasEnded, WasRun}
 
 -- What is left of bytes that are told is told.
-left_told : (front input : List ℕ) (left : Option (List ℕ)) → Some input ≡ with_front front left
+pub left_told : (front input : List ℕ) (left : Option (List ℕ)) → Some input ≡ with_front front left
     → (after : List ℕ) × (left ≡ Some after) × (input ≡ front ++ after)
 left_told front input None e = cc
 left_told front input (Some after) e = let same : input ≡ front ++ after = cc in (after, refl, same)

@@ -2,6 +2,7 @@ pub mod Errors
 pub mod LineLaws
 pub mod Numerals
 pub mod Choices
+pub mod Counts
 pub mod Following
 pub mod Watched
 pub mod Sends
@@ -25,3 +26,5 @@ pub mod Halts
 pub mod Begins
 pub mod Ends
 pub mod Complete
+pub mod Converged
+pub mod Generating

@@ -3,10 +3,12 @@ pub mod Cli
 pub mod Faults
 pub mod Feeding
 pub mod Format
+pub mod Generating
 pub mod Ledger
 pub mod Observers
 pub mod Options
 pub mod Outcome
+pub mod Peer
 pub mod Polled
 pub mod Refusals
 pub mod Runner

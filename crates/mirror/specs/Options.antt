@@ -4,6 +4,7 @@ use Rattle.std.specs.List.{AllByRecursion, list_any}
 use Rattle.std.specs.Fmt.{decimal}
 use Rattle.session_model.specs.declared.settings.Settings.{Settings}
 use Rattle.session_model.specs.Usual.{usual}
+use Rattle.transcript_generator.specs.Generated.{most_routes}
 use Rattle.mirror.specs.declared.options.Choice.{Choice}
 use Rattle.mirror.specs.declared.options.Choice.TheVariants.{Limit, Peer, Table, Start, Noop, Done, Ack}
 
@@ -66,8 +67,21 @@ pub record SpellSettings (words : List (List ℕ)) (settings : Settings) : Type 
   pub usual_else : settings ≡ fold changed usual choices
 
 -- Words that spell no settings.
+abbrev pub SpellNoSettings : List (List ℕ) → Type 0
+SpellNoSettings words = (settings : Settings) → SpellSettings words settings → ⊥
+
+-- Words ask for the generated transcript of n routes: `gen` and n.
+pub record AskForGenerated (words : List (List ℕ)) (n : ℕ) : Type 0 where
+  pub spelled : words ≡ codes "gen" ∷ decimal n ∷ []
+  pub in_range : n ≤ most_routes
+
+-- Words that ask for none.
+abbrev pub AskForNone : List (List ℕ) → Type 0
+AskForNone words = (n : ℕ) → AskForGenerated words n → ⊥
+
+-- Words that are not the program's.
 abbrev pub AreOtherWords : List (List ℕ) → Type 0
-AreOtherWords words = (settings : Settings) → SpellSettings words settings → ⊥
+AreOtherWords words = SpellNoSettings words × AskForNone words
 
 -- This is the option that a word spells, and None where it spells none.
 abbrev pub IsChoiceOf : List ℕ → Option Choice → Type 0

@@ -1,12 +1,15 @@
 //! The program over any source and sink.
-ghost use Rattle.std.specs.Prelude.{◌≡◌, ◌≤◌, ◌++◌, OnOk, OnErr, IfErr, Err, map, string_bytes};
+ghost use Rattle.std.specs.Prelude.{◌≡◌, ◌≤◌, ◌++◌, OnOk, OnErr, IfErr, Err, map, string_bytes, ℕ};
 ghost use Rattle.session_model.specs.declared.settings.Settings.{Settings};
 ghost use Rattle.transcript_io.specs.Io.{GainedSome, HasRisen, traffic, with_back};
 ghost use Rattle.mirror.specs.Cli.{HasFailed, Ran, WasReported, fault_status, ok_line};
 ghost use Rattle.mirror.specs.Faults.{IsOutputFault};
-ghost use Rattle.mirror.specs.Options.{AreOtherWords, SpellSettings};
+ghost use Rattle.mirror.specs.Generating.{HasGenerated, generated_report};
+ghost use Rattle.mirror.specs.Options.{AreOtherWords, AskForGenerated, SpellSettings};
+ghost use Rattle.transcript_generator.specs.Generated.{most_routes};
 
-use crate::options::read_words;
+use crate::generated::run_generated;
+use crate::options::{read_count, read_words};
 use crate::output::write_text;
 use crate::program::run;
 use nl_core::NoMemory;
@@ -27,12 +30,17 @@ const OTHER_WORDS: u8 = 1;
 /// `ok LINES MESSAGES DROPPED OPEN STEP` of its report, where STEP is `yes` or `no`. The answer is the exit status: 0
 /// where all of this is written; 1 for other words, and nothing is read or written then; and 2 to 9 for a fault:
 /// BadRecord, Closed, SequenceExhausted, Unfit, Limit, ReadFault, WriteFault and NoMemory. The last two come also where the
-/// last line could not be written.
+/// last line could not be written. Or its words are `gen` and N, at most 400,000: it runs the generated transcript of N
+/// routes under the usual settings, reads nothing, and writes the line of the report alone.
 pub fn cli<S: Source, K: Sink>(alloc: Global, words: &[String], input: &mut S, out: &mut K) -> u8
     ensures ran { (settings : Settings) → SpellSettings (map string_bytes words.now) settings
         → Ran settings (traffic S.left input.old input.new K.written out.old out.new) result }
 
-    // Status 1 comes exactly where the words spell no settings, and leaves source and sink as they were.
+    // `gen N` reads nothing, writes the line of its report alone, and ends with 0, 8 or 9.
+    ensures generated { (n : ℕ) → AskForGenerated (map string_bytes words.now) n
+        → HasGenerated n (K.written out.old) (K.written out.new) result × (input.new ≡ input.old) }
+
+    // Status 1 comes exactly where the words are not the program's, and leaves source and sink as they were.
     ensures other { AreOtherWords (map string_bytes words.now) → result ≡ 1 }
     ensures usage { result ≡ 1 → AreOtherWords (map string_bytes words.now) }
     ensures untouched { AreOtherWords (map string_bytes words.now) → (input.new ≡ input.old) × (out.new ≡ out.old) }
@@ -40,6 +48,9 @@ pub fn cli<S: Source, K: Sink>(alloc: Global, words: &[String], input: &mut S, o
     ensures read_cause { result ≡ 7 → HasRisen (S.faults input.old) (S.faults input.new) }
     ensures write_cause { result ≡ 8 → HasRisen (K.faults out.old) (K.faults out.new) }
 {
+    if let Some(count) = read_count(words) {
+        return generate(alloc, count, out);
+    }
     let Some(settings) = read_words(words) else {
         return OTHER_WORDS;
     };
@@ -63,6 +74,32 @@ fn status_of(fault: RunFault) -> u8
         RunFault::WriteFault => 8,
         RunFault::NoMemory => 9,
     }
+}
+
+// Runs the generated transcript of so many routes, and writes its report. The answer is the exit status.
+fn generate<K: Sink>(alloc: Global, count: u32, out: &mut K) -> u8
+    requires { count ≤ most_routes }
+    ensures told { HasGenerated count (K.written out.old) (K.written out.new) result }
+    ensures write_cause { result ≡ 8 → HasRisen (K.faults out.old) (K.faults out.new) }
+{
+    match generate_and_report(alloc, count, out) {
+        Ok(()) => SUCCESS,
+        Err(fault) => status_of(fault),
+    }
+}
+
+// The same; the answer is the fault.
+fn generate_and_report<K: Sink>(alloc: Global, count: u32, out: &mut K) -> Result<(), RunFault>
+    requires { count ≤ most_routes }
+    ensures ok { OnOk result
+        (K.written out.new ≡ with_back (K.written out.old) (ok_line (generated_report count))) }
+    ensures part { OnErr result
+        (GainedSome (K.written out.old) (K.written out.new) (ok_line (generated_report count))) }
+    ensures cause { result ≡ Err RunFault.WriteFault → HasRisen (K.faults out.old) (K.faults out.new) }
+    ensures only { IfErr result IsOutputFault }
+{
+    let report = run_generated(alloc, count)?;
+    write_report(alloc, &report, out)
 }
 
 // Runs the source's transcript under settings, and writes its report.

@@ -4,6 +4,7 @@
 mod answers;
 mod command;
 mod exchange;
+mod generated;
 mod handed;
 mod laws;
 mod ledger;
@@ -29,4 +30,5 @@ pub use records::read_line;
 pub use route_mirror::{Address, Answer, Mirror, Network, Route};
 pub use runner::Runner;
 pub use session_model::{BatchFrame, Mark, Record, Report, RunFault, Settings, SocketAddr};
+pub use transcript_generator::gen_text;
 pub use transcript_io::{MemorySink, MemorySource, Read, Sink, Source, StdSink, StdSource, Wrote};

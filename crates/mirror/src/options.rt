@@ -3,9 +3,10 @@ ghost use Rattle.std.specs.Prelude.{◌≡◌, ◌≢◌, ◌<◌, ◌^◌, ◌+
 ghost use Rattle.std.specs.Fmt.{decimal};
 ghost use Rattle.session_model.specs.declared.settings.Settings.{Settings};
 ghost use Rattle.mirror.specs.declared.options.Choice.{Choice};
-ghost use Rattle.mirror.specs.Options.{AreOtherWords, HasTaken, IsChoiceOf, IsInRange, IsNumberAfter, MayBeNumber, SpellSettings, changed, choice_word, has_kind, kind_of};
+ghost use Rattle.mirror.specs.Options.{AskForGenerated, AskForNone, HasTaken, IsChoiceOf, IsInRange, IsNumberAfter, MayBeNumber, SpellNoSettings, SpellSettings, changed, choice_word, has_kind, kind_of};
 
 use session_model::Settings;
+use transcript_generator::MOST_ROUTES;
 
 /// One option of the program.
 #[derive(Clone, Copy, Debug, PartialEq, Eq)]
@@ -151,7 +152,7 @@ fn read_choice(word: &str) -> Option<Choice>
 /// The settings that words spell: `run`, and then options in any order, at most one of each setting. They are `limit=N`,
 /// `peer=N`, `table=N`, `start=N`, `noop`, `done` and `ack`; N is decimal without leading zeros.
 pub fn read_words(words: &[String]) -> Option<Settings>
-    ensures { MatchOption result (AreOtherWords (map string_bytes words.now))
+    ensures { MatchOption result (SpellNoSettings (map string_bytes words.now))
         (SpellSettings (map string_bytes words.now)) }
 {
     let (first, choices) = words.split_first()?;
@@ -166,6 +167,24 @@ pub fn read_words(words: &[String]) -> Option<Settings>
         }
     }
     Some(chosen.settings)
+}
+
+/// How many routes a transcript is to be generated of, where words ask for one: `gen` and a number of at most 400,000, in
+/// decimal without leading zeros.
+pub fn read_count(words: &[String]) -> Option<u32>
+    ensures { MatchOption result (AskForNone (map string_bytes words.now))
+        (AskForGenerated (map string_bytes words.now)) }
+{
+    let (first, others) = words.split_first()?;
+    let (number, more) = others.split_first()?;
+    if first.as_str() != "gen" || !more.is_empty() {
+        return None;
+    }
+    let count = u32_after("", number.as_str())?;
+    if count > MOST_ROUTES {
+        return None;
+    }
+    Some(count)
 }
 
 #[cfg(test)]

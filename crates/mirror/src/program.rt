@@ -3,6 +3,7 @@ ghost use Rattle.std.specs.Prelude.{◌≡◌, ◌≤◌, OnOk, IfOk, IfErr, Err
 ghost use Rattle.std.specs.Io.KnownBytes.{IsAtEnd};
 ghost use Rattle.transcript_io.specs.Io.{HasRisen, traffic};
 ghost use Rattle.mirror.specs.Outcome.{IsComplete, WasEnded, WasRun};
+ghost use Rattle.mirror.specs.Peer.{HasConverged};
 
 use crate::run_state::RunState;
 use crate::runner::Runner;
@@ -33,11 +34,16 @@ pub fn run<S: Source, K: Sink>(
     // What the input asks for is answered, unless memory ran out, or the source or the sink failed.
     ensures complete { IsComplete settings.now (S.left input.old) result
         (HasRisen (S.faults input.old) (S.faults input.new)) (HasRisen (K.faults out.old) (K.faults out.new)) }
+
+    // Wherever the mirror is in step, a look-up is answered from the peer's own table, as long as the peer is honest.
+    ensures converges { IfOk result
+        (HasConverged settings.now (traffic S.left input.old input.new K.written out.old out.new)) }
 {
     run_transcript(alloc, input, out, settings)
 }
 
-// As `run`. That its answer is the one that the input asks for follows from these clauses, since an input has one outcome.
+// As `run`. That its answer is the one that the input asks for follows from these clauses, since an input has one outcome;
+// and that the peer's own table answers, since a mirror that is in step has it.
 fn run_transcript<S: Source, K: Sink>(
     alloc: Global,
     input: &mut S,

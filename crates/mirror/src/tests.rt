@@ -84,7 +84,10 @@ fn other_words_read_and_write_nothing(rt: HostRuntime) -> Result<(), Fail> {
         &["ru"],
         &[""],
         &["--help"],
-        &["gen", "1"],
+        &["gen"],
+        &["gen", "01"],
+        &["gen", "400001"],
+        &["gen", "1", "1"],
     ];
     for row in rows {
         let words = strings(alloc, row)?;
@@ -94,6 +97,22 @@ fn other_words_read_and_write_nothing(rt: HostRuntime) -> Result<(), Fail> {
     let mut front = [0; 5];
     assert_eq!(rt; input.read(&mut front), Read::Got(5));
     assert_eq!(rt; front.as_slice(), b"batch".as_slice());
+    Ok(())
+}
+
+// A generated transcript has its own input, and its last line alone is written.
+#[test]
+fn generated_transcripts_are_run(rt: HostRuntime) -> Result<(), Fail> {
+    let alloc = rt.alloc();
+    for (count, line) in [("0", "ok 2 1 0 0 yes\n"), ("1", "ok 5 2 0 0 yes\n")] {
+        let words = strings(alloc, &["gen", count])?;
+        let mut input = source(alloc, DUMP, 9, &[1])?;
+        let mut out = sink(alloc, 9, &[])?;
+        assert_eq!(rt; cli(alloc, words.as_slice(), &mut input, &mut out), 0);
+        assert_eq!(rt; out.bytes(), line.as_bytes());
+        let mut front = [0; 5];
+        assert_eq!(rt; input.read(&mut front), Read::Failed);
+    }
     Ok(())
 }
 

@@ -33,7 +33,7 @@ fn status_of(error: &io::Error) -> u8 {
 fn meaning(status: u8) -> Option<&'static str> {
     match status {
         1 => Some(
-            "usage: mirror_cli run [limit=N] [peer=N] [table=N] [start=N] [noop] [done] [ack]",
+            "usage: mirror_cli run [limit=N] [peer=N] [table=N] [start=N] [noop] [done] [ack], or mirror_cli gen N",
         ),
         2 => Some("mirror_cli: a line of the input is no record"),
         3 => Some("mirror_cli: a record comes after a close"),
