@@ -1,8 +1,9 @@
 //! What a connection reads.
 ghost use Rattle.std.specs.Prelude.{◌≡◌, ◌+◌, ◌*◌, ◌-◌, ◌^◌, ◌<◌, ◌≤◌, IfOk, OnErr, OnOk, is_ok, length, true};
 ghost use Rattle.std.specs.VecDeque.{deque_capacity, deque_len};
+ghost use Rattle.session_model.specs.Events.{Overran, overrun_arrival};
 ghost use Rattle.proto_core.specs.Session.{arrival_of, arrived_at, handled};
-ghost use Rattle.proto_conn.specs.Reading.{DidStep, Drained, Reads, Stopped, loads_of, room_of};
+ghost use Rattle.proto_conn.specs.Reading.{DidStep, Drained, Follows, Reads, Stopped, loads_of, room_of};
 ghost use Rattle.proto_conn.specs.Tallies.{IsTallied};
 ghost use Rattle.proto_conn.specs.Watches.{loses_nothing, overruns_nothing, sees_nothing};
 
@@ -15,6 +16,7 @@ use crate::watch::Watch;
 use nl_core::{NetlinkDeserializable, NetlinkMessage, NetlinkSerializable, NoMemory};
 use proto_core::{Incoming, NetlinkMessageCodec, Protocol};
 use session_model::SocketAddr;
+use std::alloc::Global;
 use std::collections::VecDeque;
 
 // Makes room for so many messages more in a session, and in the lists for what waits there and as many more.
@@ -83,6 +85,32 @@ pub fn take_in<T, W: Watch<T>>(
     seen
 }
 
+// Shows an overrun to the watch, and takes the message that it is into the session.
+fn take_overrun<T, W: Watch<T>>(
+    alloc: Global,
+    protocol: &mut Protocol<T, u64>,
+    tallies: &mut Tallies,
+    watch: &mut W,
+) -> Result<(), NoMemory>
+    requires room { 1 ≤ protocol.old.spare }
+    requires count { protocol.old.session.arrived + 1 < 2 ^ 64 }
+    requires tallied { IsTallied protocol.old.session.awaited protocol.old.session.responses
+        protocol.old.session.arrived tallies.old }
+    ensures session { protocol.new.session ≡ arrived_at overrun_arrival protocol.old.session }
+    ensures watch { Follows W.sees W.loses W.overruns Overran protocol.old.session watch.old (is_ok result) watch.new }
+    ensures responses { length protocol.new.session.responses ≤ length protocol.old.session.responses + 1 }
+    ensures incoming { length protocol.new.session.incoming ≤ length protocol.old.session.incoming + 1 }
+    ensures last { protocol.new.session.last ≡ protocol.old.session.last }
+    ensures outgoing { protocol.new.session.outgoing ≡ protocol.old.session.outgoing }
+    ensures given { length tallies.new.streams ≡ length tallies.old.streams }
+    ensures tallied { IsTallied protocol.new.session.awaited protocol.new.session.responses
+        protocol.new.session.arrived tallies.new }
+{
+    let source = SocketAddr { port: 0, groups: 0 };
+    watch.overrun();
+    take_in(protocol, tallies, overrun_message(alloc), source, watch)
+}
+
 impl<T: NetlinkSerializable + NetlinkDeserializable, S: Link, C: NetlinkMessageCodec> Connection<
     T,
     S,
@@ -111,17 +139,8 @@ impl<T: NetlinkSerializable + NetlinkDeserializable, S: Link, C: NetlinkMessageC
             1,
         )?;
         if is_overrun(self.held) {
-            let message = overrun_message(self.alloc);
-            let source = SocketAddr { port: 0, groups: 0 };
             self.held = Held::Nothing;
-            watch.overrun();
-            take_in(
-                &mut self.protocol,
-                &mut self.tallies,
-                message,
-                source,
-                watch,
-            )?;
+            take_overrun(self.alloc, &mut self.protocol, &mut self.tallies, watch)?;
             return Ok(true);
         }
         let step = self.framed.step()?;
@@ -142,16 +161,7 @@ impl<T: NetlinkSerializable + NetlinkDeserializable, S: Link, C: NetlinkMessageC
                 Ok(true)
             }
             Step::Overrun => {
-                let message = overrun_message(self.alloc);
-                let source = SocketAddr { port: 0, groups: 0 };
-                watch.overrun();
-                take_in(
-                    &mut self.protocol,
-                    &mut self.tallies,
-                    message,
-                    source,
-                    watch,
-                )?;
+                take_overrun(self.alloc, &mut self.protocol, &mut self.tallies, watch)?;
                 Ok(true)
             }
             Step::Fetched => Ok(true),

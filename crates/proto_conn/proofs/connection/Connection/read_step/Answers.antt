@@ -1,7 +1,5 @@
-use Rattle.std.proofs.Common.{ℕ, List, rules, ◌≡◌, [], true, false, inl, inr, sym, subst, ◌∙◌, ap, refl}
-use Rattle.nl_core.specs.declared.message.NetlinkMessage.{NetlinkMessage}
-use Rattle.session_model.specs.Events.{Came, Overran, overrun_arrival}
-use Rattle.proto_core.specs.Session.{arrived_at, handled}
+use Rattle.std.proofs.Common.{ℕ, List, rules, [], inl, inr, sym, subst, ◌∙◌, ap, refl}
+use Rattle.session_model.specs.Events.{Came, Overran}
 use Rattle.proto_conn.specs.declared.framed.Step.{Step}
 use Rattle.proto_conn.specs.Seen.{Framing, IsStep, loss}
 use Rattle.proto_conn.proofs.Seeing.{on_err}
@@ -22,44 +20,32 @@ returns-in_err-step-clause-err g c =
     (on_err _ (stopped_nothing g.W.Watch.sees g.W.Watch.loses g.W.Watch.overruns g.T.NetlinkDeserializable.reads g.S.Link.meaning _ _ _
     (search rules)))
 
-pub returns-in_err-take_in-clause-err : goal.returns-in_err-take_in-clause-err
-returns-in_err-take_in-clause-err g c =
-    let e : c.take_in.new.protocol.session ≡ arrived_at overrun_arrival c.make_room.new.protocol.session = c.take_in.ensures.session
-    ∙ ap (λ (m : NetlinkMessage g.row.T.Denot). arrived_at (record { message = m; source = record { port = 0; groups = 0 } })
-    c.make_room.new.protocol.session) c.overrun_message-message.ensures in
-    let w = subst (λ (m : NetlinkMessage g.row.T.Denot). g.W.Watch.sees c.overrun.new.self m (record { port = 0; groups = 0 })
-    (handled (record { message = m; source = record { port = 0; groups = 0 } }) c.make_room.new.protocol.session) false
-    c.take_in.new.watch) c.overrun_message-message.ensures c.in_err-take_in.ensures.watch in
+pub returns-in_err-take_overrun-clause-err : goal.returns-in_err-take_overrun-clause-err
+returns-in_err-take_overrun-clause-err g c =
     rw (c.make_room.ensures.same_replies, c.make_room.ensures.same_unsolicited, sym c.self.view_is)
     (on_err _ (missed_overrun g.W.Watch.sees g.W.Watch.loses g.W.Watch.overruns g.T.NetlinkDeserializable.reads g.S.Link.meaning _
     c.self.inside.held c.self.inside.framed (overran_of c.self.inside.held (sym c.is_overrun.ensures ∙ c.if-is_overrun.true))
-    c.self.invariant.held refl _ c.make_room.new.protocol.session c.take_in.new.protocol.session c.take_in.new.watch
-    c.make_room.ensures.session e (c.overrun.new.self, c.overrun.ensures, w)))
+    c.self.invariant.held refl _ c.make_room.new.protocol.session c.take_overrun.new.protocol.session c.take_overrun.new.watch
+    c.make_room.ensures.session c.take_overrun.ensures.session c.in_err-take_overrun.ensures.watch))
 
 pub returns-then-is_overrun-clause-ok : goal.returns-then-is_overrun-clause-ok
 returns-then-is_overrun-clause-ok g c =
-    let e : c.take_in.new.protocol.session ≡ arrived_at overrun_arrival c.make_room.new.protocol.session = c.take_in.ensures.session
-    ∙ ap (λ (m : NetlinkMessage g.row.T.Denot). arrived_at (record { message = m; source = record { port = 0; groups = 0 } })
-    c.make_room.new.protocol.session) c.overrun_message-message.ensures in
-    let w = subst (λ (m : NetlinkMessage g.row.T.Denot). g.W.Watch.sees c.overrun.new.self m (record { port = 0; groups = 0 })
-    (handled (record { message = m; source = record { port = 0; groups = 0 } }) c.make_room.new.protocol.session) true
-    c.take_in.new.watch) c.overrun_message-message.ensures c.in_ok-take_in.ensures.watch in
     rw (c.make_room.ensures.same_replies, c.make_room.ensures.same_unsolicited, sym c.self.view_is)
     (did_overrun g.W.Watch.sees g.W.Watch.loses g.W.Watch.overruns g.T.NetlinkDeserializable.reads g.S.Link.meaning _ c.self.inside.held
     c.self.inside.framed (overran_of c.self.inside.held (sym c.is_overrun.ensures ∙ c.if-is_overrun.true)) c.self.invariant.held refl _
-    c.make_room.new.protocol.session c.take_in.new.protocol.session c.take_in.new.watch c.make_room.ensures.session e
-    (c.overrun.new.self, c.overrun.ensures, w))
+    c.make_room.new.protocol.session c.take_overrun.new.protocol.session c.take_overrun.new.watch c.make_room.ensures.session
+    c.take_overrun.ensures.session c.in_ok-take_overrun.ensures.watch)
 
-pub take_in-requires-in-Message-clause-count : goal.take_in-requires-in-Message-clause-count
-take_in-requires-in-Message-clause-count g c =
+pub take_in-requires-clause-count : goal.take_in-requires-clause-count
+take_in-requires-clause-count g c =
     let s = subst (λ (s : Step g.row.T.Denot). IsStep g.T.NetlinkDeserializable.reads g.S.Link.meaning c.self.inside.framed s
     c.step.new.self) c.in-Message.is c.in_ok-step.ensures.step in
     rw c.make_room.ensures.session (number_for g.W.Watch.sees g.W.Watch.loses g.W.Watch.overruns g.T.NetlinkDeserializable.reads
     g.S.Link.meaning _ _ c.self.view_is c.self.inside.held (calm_of c.self.inside.held (sym c.is_overrun.ensures ∙ c.if-is_overrun.false))
     c.self.inside.framed c.step.new.self refl refl refl (Came c.in-Message.message c.in-Message.source) refl s.because c.requires)
 
-pub take_in-requires-in-Overrun-clause-count : goal.take_in-requires-in-Overrun-clause-count
-take_in-requires-in-Overrun-clause-count g c =
+pub take_overrun-requires-in-Overrun-clause-count : goal.take_overrun-requires-in-Overrun-clause-count
+take_overrun-requires-in-Overrun-clause-count g c =
     let s = subst (λ (s : Step g.row.T.Denot). IsStep g.T.NetlinkDeserializable.reads g.S.Link.meaning c.self.inside.framed s
     c.step.new.self) c.in-Overrun.is c.in_ok-step.ensures.step in
     rw c.make_room.ensures.session (number_for g.W.Watch.sees g.W.Watch.loses g.W.Watch.overruns g.T.NetlinkDeserializable.reads
@@ -73,9 +59,9 @@ returns-in_err-take_in-in-Message-clause-err g c =
     rw (c.make_room.ensures.same_replies, c.make_room.ensures.same_unsolicited, sym c.self.view_is)
     (on_err _ (missed_one g.W.Watch.sees g.W.Watch.loses g.W.Watch.overruns g.T.NetlinkDeserializable.reads g.S.Link.meaning _
     c.self.inside.held (calm_of c.self.inside.held (sym c.is_overrun.ensures ∙ c.if-is_overrun.false)) c.self.inside.framed
-    c.step.new.self refl refl refl _ c.make_room.new.protocol.session c.take_in-in-Message.new.protocol.session
-    c.take_in-in-Message.new.watch (Came c.in-Message.message c.in-Message.source) c.make_room.ensures.session
-    c.take_in-in-Message.ensures.session s.read c.in_err-take_in-in-Message.ensures.watch))
+    c.step.new.self refl refl refl _ c.make_room.new.protocol.session c.take_in.new.protocol.session
+    c.take_in.new.watch (Came c.in-Message.message c.in-Message.source) c.make_room.ensures.session
+    c.take_in.ensures.session s.read c.in_err-take_in-in-Message.ensures.watch))
 
 pub returns-in_ok-take_in-in-Message-clause-ok : goal.returns-in_ok-take_in-in-Message-clause-ok
 returns-in_ok-take_in-in-Message-clause-ok g c =
@@ -84,43 +70,30 @@ returns-in_ok-take_in-in-Message-clause-ok g c =
     rw (c.make_room.ensures.same_replies, c.make_room.ensures.same_unsolicited, sym c.self.view_is)
     (did_one g.W.Watch.sees g.W.Watch.loses g.W.Watch.overruns g.T.NetlinkDeserializable.reads g.S.Link.meaning _ c.self.inside.held
     (calm_of c.self.inside.held (sym c.is_overrun.ensures ∙ c.if-is_overrun.false)) c.self.inside.framed c.step.new.self refl refl refl _
-    c.make_room.new.protocol.session c.take_in-in-Message.new.protocol.session c.take_in-in-Message.new.watch
-    (Came c.in-Message.message c.in-Message.source) c.make_room.ensures.session c.take_in-in-Message.ensures.session refl s.read s.because
+    c.make_room.new.protocol.session c.take_in.new.protocol.session c.take_in.new.watch
+    (Came c.in-Message.message c.in-Message.source) c.make_room.ensures.session c.take_in.ensures.session refl s.read s.because
     c.in_ok-take_in-in-Message.ensures.watch)
 
-pub returns-in_err-take_in-in-Overrun-clause-err : goal.returns-in_err-take_in-in-Overrun-clause-err
-returns-in_err-take_in-in-Overrun-clause-err g c =
+pub returns-in_err-take_overrun-in-Overrun-clause-err : goal.returns-in_err-take_overrun-in-Overrun-clause-err
+returns-in_err-take_overrun-in-Overrun-clause-err g c =
     let s = subst (λ (s : Step g.row.T.Denot). IsStep g.T.NetlinkDeserializable.reads g.S.Link.meaning c.self.inside.framed s
     c.step.new.self) c.in-Overrun.is c.in_ok-step.ensures.step in
-    let e : c.take_in-in-Overrun.new.protocol.session ≡ arrived_at overrun_arrival
-    c.make_room.new.protocol.session = c.take_in-in-Overrun.ensures.session
-    ∙ ap (λ (m : NetlinkMessage g.row.T.Denot). arrived_at (record { message = m; source = record { port = 0; groups = 0 } })
-    c.make_room.new.protocol.session) c.overrun_message-message-in-Overrun.ensures in
-    let w = subst (λ (m : NetlinkMessage g.row.T.Denot). g.W.Watch.sees c.overrun-in-Overrun.new.self m (record { port = 0; groups = 0 })
-    (handled (record { message = m; source = record { port = 0; groups = 0 } }) c.make_room.new.protocol.session) false
-    c.take_in-in-Overrun.new.watch) c.overrun_message-message-in-Overrun.ensures c.in_err-take_in-in-Overrun.ensures.watch in
     rw (c.make_room.ensures.same_replies, c.make_room.ensures.same_unsolicited, sym c.self.view_is)
     (on_err _ (missed_one g.W.Watch.sees g.W.Watch.loses g.W.Watch.overruns g.T.NetlinkDeserializable.reads g.S.Link.meaning _
     c.self.inside.held (calm_of c.self.inside.held (sym c.is_overrun.ensures ∙ c.if-is_overrun.false)) c.self.inside.framed
-    c.step.new.self refl refl refl _ c.make_room.new.protocol.session c.take_in-in-Overrun.new.protocol.session
-    c.take_in-in-Overrun.new.watch Overran c.make_room.ensures.session e s.read (c.overrun-in-Overrun.new.self, c.overrun-in-Overrun.ensures, w)))
+    c.step.new.self refl refl refl _ c.make_room.new.protocol.session c.take_overrun-in-Overrun.new.protocol.session
+    c.take_overrun-in-Overrun.new.watch Overran c.make_room.ensures.session c.take_overrun-in-Overrun.ensures.session s.read
+    c.in_err-take_overrun-in-Overrun.ensures.watch))
 
-pub returns-in_ok-take_in-in-Overrun-clause-ok : goal.returns-in_ok-take_in-in-Overrun-clause-ok
-returns-in_ok-take_in-in-Overrun-clause-ok g c =
+pub returns-in_ok-take_overrun-in-Overrun-clause-ok : goal.returns-in_ok-take_overrun-in-Overrun-clause-ok
+returns-in_ok-take_overrun-in-Overrun-clause-ok g c =
     let s = subst (λ (s : Step g.row.T.Denot). IsStep g.T.NetlinkDeserializable.reads g.S.Link.meaning c.self.inside.framed s
     c.step.new.self) c.in-Overrun.is c.in_ok-step.ensures.step in
-    let e : c.take_in-in-Overrun.new.protocol.session ≡ arrived_at overrun_arrival
-    c.make_room.new.protocol.session = c.take_in-in-Overrun.ensures.session
-    ∙ ap (λ (m : NetlinkMessage g.row.T.Denot). arrived_at (record { message = m; source = record { port = 0; groups = 0 } })
-    c.make_room.new.protocol.session) c.overrun_message-message-in-Overrun.ensures in
-    let w = subst (λ (m : NetlinkMessage g.row.T.Denot). g.W.Watch.sees c.overrun-in-Overrun.new.self m (record { port = 0; groups = 0 })
-    (handled (record { message = m; source = record { port = 0; groups = 0 } }) c.make_room.new.protocol.session) true
-    c.take_in-in-Overrun.new.watch) c.overrun_message-message-in-Overrun.ensures c.in_ok-take_in-in-Overrun.ensures.watch in
     rw (c.make_room.ensures.same_replies, c.make_room.ensures.same_unsolicited, sym c.self.view_is)
     (did_one g.W.Watch.sees g.W.Watch.loses g.W.Watch.overruns g.T.NetlinkDeserializable.reads g.S.Link.meaning _ c.self.inside.held
     (calm_of c.self.inside.held (sym c.is_overrun.ensures ∙ c.if-is_overrun.false)) c.self.inside.framed c.step.new.self refl refl refl _
-    c.make_room.new.protocol.session c.take_in-in-Overrun.new.protocol.session c.take_in-in-Overrun.new.watch Overran
-    c.make_room.ensures.session e refl s.read s.because.0 (c.overrun-in-Overrun.new.self, c.overrun-in-Overrun.ensures, w))
+    c.make_room.new.protocol.session c.take_overrun-in-Overrun.new.protocol.session c.take_overrun-in-Overrun.new.watch Overran
+    c.make_room.ensures.session c.take_overrun-in-Overrun.ensures.session refl s.read s.because.0 c.in_ok-take_overrun-in-Overrun.ensures.watch)
 
 pub returns-in-Lost-clause-ok : goal.returns-in-Lost-clause-ok
 returns-in-Lost-clause-ok g c =
