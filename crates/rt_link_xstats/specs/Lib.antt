@@ -1,0 +1,16 @@
+pub mod Nested
+pub mod NestedLaws
+pub mod BridgeStp
+pub mod BridgeStpLaws
+pub mod BridgeVlan
+pub mod BridgeVlanLaws
+pub mod BridgeMcast
+pub mod BridgeMcastLaws
+pub mod Bridge
+pub mod BridgeLaws
+pub mod Bond3ad
+pub mod Bond3adLaws
+pub mod Bond
+pub mod BondLaws
+pub mod Group
+pub mod GroupLaws

@@ -1,0 +1,15 @@
+pub mod FilterMask
+pub mod HwStats
+pub mod HwStatsLaws
+pub mod HwInfo
+pub mod HwInfoLaws
+pub mod Offload
+pub mod OffloadLaws
+pub mod MplsLink
+pub mod MplsLinkLaws
+pub mod AfSpec
+pub mod AfSpecLaws
+pub mod StatsAttribute
+pub mod StatsAttributeLaws
+pub mod Stats
+pub mod StatsLaws
