@@ -26,8 +26,8 @@ pub struct Fed {
     pub line: Option<Line>,
 }
 
-/// The lines of a transcript, decoded as their bytes come; frames of a batch have to be readable as a `T`. No line is kept as
-/// text. Out of memory it isn't used again.
+/// The lines of a transcript, decoded as their bytes come; frames of a batch have to be readable as a `T`. No line is
+/// kept as text. Out of memory it isn't used again.
 #[derive(Drop)]
 pub struct LineDecoder<T> {
     line: OpenLine,
@@ -63,8 +63,8 @@ impl<T: NetlinkDeserializable + Drop> LineDecoder<T> {
         }
     }
 
-    /// Takes the bytes up to and with the first newline, else all. A line is told exactly where a newline was taken: the
-    /// record that the bytes since the line began spell, or `Bad` where they spell none; the decoder is fresh then.
+    /// Takes the bytes up to and with the first newline, else all. A line is told exactly where a newline was taken:
+    /// the record that the bytes since the line began spell, or `Bad` where they spell none; nothing is taken then.
     pub fn feed(&mut self, piece: &[u8]) -> Result<Fed, NoMemory>
         ensures part { IfOk result (λ fed. IfNone fed.line (TakesAll self.old piece.now fed.took self.new)) }
         ensures line { IfOk result (λ fed. IfSome fed.line (EndsLine T.reads self.old piece.now fed.took self.new)) }
@@ -91,7 +91,8 @@ impl<T: NetlinkDeserializable + Drop> LineDecoder<T> {
         self.line.is_begun()
     }
 
-    /// How many decoded bytes are kept: at most half as many as the line's bytes so far, and at most 65,536 in a `recv` line.
+    /// How many decoded bytes are kept: at most half as many as the line's bytes so far, and at most 65,536 in a
+    /// `recv` line.
     pub fn held(&self) -> usize
         ensures half { (taken : List ℕ) → Stands taken self.now → result * 2 ≤ length taken }
         ensures short { (taken : List ℕ) → Stands taken self.now → IsRecvLine taken → result ≤ longest_datagram }

@@ -5,7 +5,7 @@ ghost use Rattle.transcript_lines.specs.Digits.{ArePairs, IsDigitValue};
 // What stands for a byte that is no digit: more than any digit's value.
 const NO_DIGIT: u8 = 16;
 
-/// The value of a digit, and 16 where the byte is none; no branch depends on the byte.
+/// The value of a digit, and 16 where the byte is none.
 pub(crate) fn digit_value(byte: u8) -> u8
     ensures { IsDigitValue byte result }
 {

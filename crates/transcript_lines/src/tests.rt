@@ -1,4 +1,6 @@
 //! Lines with the records that they spell, lines that spell none, and lines that are written.
+ghost use Rattle.std.specs.Prelude.{◌<◌};
+
 use super::line::spelled_record;
 use super::{
     BytesReader, Line, LineDecoder, NumberReader, Word, every_input_has_an_outcome, one_record,
