@@ -28,22 +28,19 @@ pub(crate) fn side_child<'a, V: TrieView<'a>, S>(
     ensures cost { steps.new ≤ steps.old + V.cost }
     ensures frugal { IsTrue (side_frugal V.told side.old) → IsOk result }
 {
-    let Some(mut view) = side.take() else {
+    let Some(view) = side else {
         return Ok(None);
     };
     if view.depth() == depth {
-        if view.child_bitmap() >> bit & 1 == 1 {
-            let child = view.get_child(bit, steps)?;
-            *side = Some(view);
-            return Ok(Some(child));
+        if view.child_bitmap() >> bit & 1 == 0 {
+            return Ok(None);
         }
-        *side = Some(view);
-        return Ok(None);
+        let child = view.get_child(bit, steps)?;
+        return Ok(Some(child));
     }
     if child_bit(depth, view.key()) == bit {
-        return Ok(Some(view));
+        return Ok(side.take());
     }
-    *side = Some(view);
     Ok(None)
 }
 
@@ -119,11 +116,10 @@ pub(crate) fn side_take<'a, V: TrieView<'a>>(
     if side_data(side, depth) >> bit & 1 == 0 {
         return Ok(None);
     }
-    let Some(mut view) = side.take() else {
+    let Some(view) = side else {
         return Ok(None);
     };
     let item = view.get_data(bit)?;
-    *side = Some(view);
     Ok(Some(item))
 }
 

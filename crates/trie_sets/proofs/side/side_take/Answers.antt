@@ -18,7 +18,7 @@ returns-then-side_data-bit-eq0-clause-took g c = λ place d ok.
 pub returns-clause-took : goal.returns-clause-took
 returns-clause-took g c = λ place d ok.
     let w : ℕ = g.V.P.Number.KeyBits.width in
-    let e : c.args.side.now ≡ Some c.in-Some.view = sym c.take.ensures.value ∙ c.in-Some.is in
+    let e : c.args.side.now ≡ Some c.in-Some.view = c.in-Some.is in
     let here = subst (λ o. IsInnerSide g.V.TrieView.valid g.V.TrieView.told w place o) e ok in
     subst (λ o. SideTook {T = g.row.V-T.Denot} g.V.TrieView.valid g.V.TrieView.told g.V.TrieView.item w place c.args.bit o (Some c.get_data.new.self)
     (Some c.in_ok-item.item)) (sym e)
