@@ -8,7 +8,7 @@ use Rattle.std.proofs.lemmas.Nat.Bits.{bit_at_and, bit_at-lt, bit_at_above}
 use Rattle.trie_model.specs.Nets.{Net, covers}
 use Rattle.trie_model.specs.Spots.{rank_at, spot_of, next_spot, all_under, ltb}
 use Rattle.trie_model.specs.Views.{ViewValue, IsView, TookData, TookChild, IsChild, depth_at, data_net, child_net, child_toward}
-use Rattle.trie_model.specs.Walks.{Ahead, Vacant, bits_where, data_from, children_from, rest}
+use Rattle.trie_model.specs.Walks.{Ahead, bits_where, data_from, children_from, rest}
 use Rattle.trie_model.proofs.Places.{and_left, and_right, elim-false, depth_le, level_le, bit_below, covers_len, covers_way, covers_toward, toward_covers}
 use Rattle.trie_model.proofs.SpotLaws.{under, under2, if_then, by_if, ltb-lt, bit_back}
 use Rattle.trie_model.proofs.LongestLaws.{one_both, both_one, cond_is}
@@ -114,19 +114,6 @@ rest_start w t n x = ((λ a. a.0), (λ a. (a, (let le : 0 ≤ rank_at (spot_of w
 
 -- ---- one spot on
 
--- Where nothing stands at a spot, the same is left from the next one on.
-pub rest_vacant : {X : Type 0} (w : ℕ) (t : ViewValue X) (h : ℕ) → IsView w t → 1 ≤ h → h < 64 → Vacant t h → (n : Net) (x : X) → (rest w t (next_spot h)).at n x ↔ (rest w t h).at n x
-unfolding Ahead
-rest_vacant {X} w t h ok ph hh vacant n x = (
-  (λ a. (a.0, (let more = rank_more h ph hh in let le = a.1 in omega (arith, more, le)))),
-  (λ a. (a.0, ahead (less_or h 32) n x a)),
-)
-  where
-    ahead : (h < 32) ⊎ (32 ≤ h) → Ahead w (rest w t h) (next_spot h)
-    ahead (inl lt) = unset_data w h (h - 1) (rest w t h) (rest_view w t h (omega (arith, hh)) ok) (rest_ahead w t h) (omega (arith, ph)) (omega (arith, ph, lt)) (λ set. vacant.0 lt (both_bits t.data_bits (data_from h) (h - 1) set).0)
-    ahead (inr le) = unset_child w h (h - 32) (rest w t h) (rest_view w t h (omega (arith, hh)) ok) (rest_ahead w t h) (omega (arith, le))
-        (omega (arith, le, hh)) (λ set. vacant.1 le (both_bits t.child_bits (children_from h) (h - 32) set).0)
-
 -- The item at a spot is left from that spot on.
 pub rest_item : {X : Type 0} (w : ℕ) (t : ViewValue X) (h bit : ℕ) (x : X) → IsView w t → h ≡ bit + 1 → bit < 31 → t.at (data_net w t.place bit) x → (rest w t h).at (data_net w t.place bit) x
 rest_item w t h bit x ok e lt a = (a, (let s = ap rank_at (bit_spot w t ok bit x lt a) in let g = ap rank_at e in omega (arith, s, g)))
@@ -211,11 +198,6 @@ rest_child w t v h c ok e set is =
 -- The child bit at a spot is set in what is left from that spot on.
 pub rest_set : (m h c : ℕ) → h ≡ 32 + c → c < 32 → bit_at m c ≡ 1 → bit_at (bit_and m (children_from h)) c ≡ 1
 rest_set m h c e lt set = and_bits m (children_from h) c set (children_from_bit h c (omega (arith, e, lt)) lt ∙ ap (λ b. cond b 1 0) (le-leb _ _ (let g = ap rank_at e in omega (arith, g))))
-
--- A step past a spot with nothing leaves the same pairs.
-pub on_vacant : {V X : Type 0} (tell : V → ViewValue X) (w h r : ℕ) (u v : V) → u ≡ v → r ≡ next_spot h → IsView w (tell v) → 1 ≤ h → h < 64 → Vacant (tell v) h → (n : Net) (x : X) → (rest w (tell u) r).at n x ↔ (rest w (tell v) h).at n x
-on_vacant tell w h r u v e g ok ph hh vacant n x =
-    subst (λ z. (rest w (tell z) r).at n x ↔ (rest w (tell v) h).at n x) (sym e) (subst (λ k. (rest w (tell v) k).at n x ↔ (rest w (tell v) h).at n x) (sym g) (rest_vacant w (tell v) h ok ph hh vacant n x))
 
 -- A step that takes the item of a spot takes it from what is left.
 pub on_data : {X : Type 0} (w : ℕ) (t u : ViewValue X) (h r bit : ℕ) → IsView w t → h ≡ bit + 1 → bit < 31 → r ≡ next_spot h → TookData w bit t u → TookData w bit (rest w t h) (rest w u r)

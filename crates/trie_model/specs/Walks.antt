@@ -44,10 +44,6 @@ rest w t h = record {
   frugal = t.frugal;
 }
 
--- Nothing stands at the spot.
-abbrev pub Vacant : {X : Type 0} → ViewValue X → ℕ → Type 0
-Vacant t h = (h < 32 → bit_at t.data_bits (h - 1) ≡ 1 → ⊥) × (32 ≤ h → bit_at t.child_bits (h - 32) ≡ 1 → ⊥)
-
 -- The prefix is this one or comes after it, or only the latter.
 abbrev pub From : ℕ → Bool → Net → Net → Type 0
 From w inclusive net n = order_key w net < order_key w n + cond inclusive 1 0
