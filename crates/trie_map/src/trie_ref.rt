@@ -173,7 +173,9 @@ impl<'a, P: PlainPrefix, T> TrieView<'a> for TrieRef<'a, P, T> {
         true
     }
 
-    ghost laws = { λ v ok. ref_laws node_shape P.Number.width (net_of (P.Number.number v.key) v.len) v.data_bitmap v.child_bitmap v.node.node.now ok };
+    ghost laws = { λ v ok.
+        ref_laws node_shape P.Number.width (net_of (P.Number.number v.key) v.len)
+        v.data_bitmap v.child_bitmap v.node.node.now ok };
 
     ghost onto = { λ x. (record { ref_ptr = (0, 0); now = x }, refl) };
 }

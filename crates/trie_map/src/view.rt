@@ -120,5 +120,6 @@ pub trait AsView<'a>: Sized {
         ensures stands { stands_for result self };
 
     /// The views that stand for one value are at one place and have the same pairs.
-    ghost stands_law: { (a b : Self.View) (v : Self) → stands_for a v → stands_for b v → ShowSame (Self.View.told a) (Self.View.told b) };
+    ghost stands_law: { (a b : Self.View) (v : Self) → stands_for a v → stands_for b v
+        → ShowSame (Self.View.told a) (Self.View.told b) };
 }
