@@ -20,4 +20,5 @@ Accepts {S} {T} item other post x y = (s : S) × ((t : T) × (item s ≡ x) × (
 
 -- Of items that contracts see as the same there is one answer.
 abbrev pub AnswersByBoth : {S T X Y : Type 0} → (S → X) → (T → Y) → (S → T → Bool → Type 0) → Type 0
-AnswersByBoth {S} {T} item other post = (r s : S) (t u : T) (a b : Bool) → item r ≡ item s → other t ≡ other u → post r t a → post s u b → a ≡ b
+AnswersByBoth {S} {T} item other post =
+    (r s : S) (t u : T) (a b : Bool) → item r ≡ item s → other t ≡ other u → post r t a → post s u b → a ≡ b

@@ -6,7 +6,8 @@ use Rattle.trie_adapters.specs.Mapped.{mapped, IsFunction, AnswersOf, PointsTo}
 use Rattle.trie_adapters.specs.Answers.{AnswersByItem, TellsTarget}
 
 -- A view whose items are related to one each keeps the laws.
-pub mapped_laws : {X Y : Type 0} (w : ℕ) (relates : X → Y → Type 0) (frugal : Bool) (t : ViewValue X) → IsView w t → IsFunction relates → IsView w (mapped relates frugal t)
+pub mapped_laws : {X Y : Type 0} (w : ℕ) (relates : X → Y → Type 0) (frugal : Bool) (t : ViewValue X) → IsView w t
+    → IsFunction relates → IsView w (mapped relates frugal t)
 mapped_laws w relates frugal t ok is = record {
   place_ok = ok.place_ok;
   data_fit = ok.data_fit;
@@ -20,14 +21,16 @@ mapped_laws w relates frugal t ok is = record {
 }
 
 -- A function that answers by item relates each item to one answer.
-pub answers_function : {T X U : Type 0} (item : T → X) (post : T → U → Type 0) → ((x : X) → (t : T) × (item t ≡ x)) → AnswersByItem item post → IsFunction (AnswersOf item post)
+pub answers_function : {T X U : Type 0} (item : T → X) (post : T → U → Type 0) → ((x : X) → (t : T) × (item t ≡ x))
+    → AnswersByItem item post → IsFunction (AnswersOf item post)
 answers_function item post onto by = (
   (λ x a b p q. by.one p.0 q.0 a b (p.1 ∙ sym q.1) p.2 q.2),
   (λ x. let t = onto x in let u = by.some t.0 in (u.0, (t.0, t.1, u.1))),
 )
 
 -- What references point to is one thing for each item.
-pub target_function : {T X U : Type 0} (item : T → X) (now : T → U) → ((x : X) → (t : T) × (item t ≡ x)) → TellsTarget item now → IsFunction (PointsTo item now)
+pub target_function : {T X U : Type 0} (item : T → X) (now : T → U) → ((x : X) → (t : T) × (item t ≡ x))
+    → TellsTarget item now → IsFunction (PointsTo item now)
 target_function item now onto tells = (
   (λ x a b p q. sym p.2 ∙ tells p.0 q.0 (p.1 ∙ sym q.1) ∙ q.2),
   (λ x. let t = onto x in (now t.0, (t.0, t.1, refl))),

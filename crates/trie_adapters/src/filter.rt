@@ -3,7 +3,8 @@
 ghost use Rattle.std.specs.Prelude.{◌≡◌, ℕ, ◌+◌, ◌<◌, ◌≤◌, IsTrue, IfOk, IsOk};
 ghost use Rattle.std.specs.Result.{OnOk};
 ghost use Rattle.trie_model.proofs.Places.{show_equal};
-ghost use Rattle.trie_adapters.specs.Filtered.{AcceptsPair, AnswersByPair, Filters, KeepsItems, TakesAccepted, filtered};
+ghost use Rattle.trie_adapters.specs.Filtered.{AcceptsPair, AnswersByPair, Filters, KeepsItems};
+ghost use Rattle.trie_adapters.specs.Filtered.{TakesAccepted, filtered};
 ghost use Rattle.trie_adapters.specs.FilterLaws.{filter_laws};
 
 use crate::kept::Kept;

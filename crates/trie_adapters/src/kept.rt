@@ -1,6 +1,7 @@
 //! The items that a filtered view keeps of a node.
 
-ghost use Rattle.std.specs.Prelude.{◌≡◌, ◌++◌, ◌∷◌, ◌<◌, [], IfOk, List, Option, Some, None, length, slice_get, slice_set};
+ghost use Rattle.std.specs.Prelude.{◌≡◌, ◌++◌, ◌∷◌, ◌<◌, [], IfOk, List, Option, Some, None};
+ghost use Rattle.std.specs.Prelude.{length, slice_get, slice_set};
 ghost use Rattle.std.specs.Result.{OnOk};
 
 use nl_core::NoMemory;

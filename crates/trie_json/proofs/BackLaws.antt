@@ -1,5 +1,6 @@
 -- What was written of a map or a set is read as an equal one.
-use Rattle.std.proofs.Common.{◌≡◌, ℕ, zero, suc, ◌≤◌, ◌∙◌, sym, ap, subst, refl, cond, Bool, true, false, List, [], ◌∷◌, ◌++◌, map, reverse, Option, Some, None, inl, inr}
+use Rattle.std.proofs.Common.{◌≡◌, ℕ, zero, suc, ◌≤◌, ◌∙◌, sym, ap, subst, refl, cond, Bool, true, false, List, []}
+use Rattle.std.proofs.Common.{◌∷◌, ◌++◌, map, reverse, Option, Some, None, inl, inr}
 use Rattle.std.specs.Prelude.{slice_get, Result, Ok, Err, IfOk, IfErr}
 use Rattle.std.proofs.lemmas.List.{reverse-append}
 use Rattle.serde_json.specs.Data.{Data}
@@ -11,7 +12,8 @@ use Rattle.trie_model.specs.Walks.{Within, Ascends}
 use Rattle.trie_model.proofs.MapLists.{OfWidth, list_of_map, unique, value_within, within_value, pair_of}
 use Rattle.trie_model.proofs.TrieLaws.{same_net_is}
 use Rattle.trie_json.specs.Writing.{list_data, net_data, entry_data, map_data, set_data}
-use Rattle.trie_json.specs.Reading.{AreRead, IsListRead, IsNoPrefix, ReadsEntry, ReadsMember, ReadsNet, StopsAt, ReadsMap, ReadsSet, RefusesMap, RefusesSet, last_of_each}
+use Rattle.trie_json.specs.Reading.{AreRead, IsListRead, IsNoPrefix, ReadsEntry, ReadsMember, ReadsNet, StopsAt}
+use Rattle.trie_json.specs.Reading.{ReadsMap, ReadsSet, RefusesMap, RefusesSet, last_of_each}
 use Rattle.trie_json.specs.declared.refusal.JsonRefusal.{JsonRefusal}
 use Rattle.trie_json.specs.declared.refusal.JsonRefusal.TheVariants.{NotList, NotPair, BadPrefix, BadItem, NoMemory}
 use Rattle.trie_json.proofs.BitsLaws.{bits_one, fits_128}
@@ -63,7 +65,8 @@ unfolding Within value_at
 found [] n x h = absurd h
 found {X} (p ∷ ps) n x h = by (found ps n x) (same_net n p.0) refl h
   where
-    by : (Within ps n x → (y : X) × (value_at ps n ≡ Some y)) → (b : Bool) → same_net n p.0 ≡ b → Within (p ∷ ps) n x → (y : X) × (cond (same_net n p.0) (Some p.1) (value_at ps n) ≡ Some y)
+    by : (Within ps n x → (y : X) × (value_at ps n ≡ Some y)) → (b : Bool) → same_net n p.0 ≡ b → Within (p ∷ ps) n x
+        → (y : X) × (cond (same_net n p.0) (Some p.1) (value_at ps n) ≡ Some y)
     by rest true e k = (p.1, ap (λ b. cond b (Some p.1) (value_at ps n)) e)
     by rest false e (inl same) = absurd (let no : ⊥ = (let t = same_net_is n p.0 (sym same.0) in let bad : true ≡ false = sym t ∙ e in cc) in no)
     by rest false e (inr k) = let r = rest k in (r.0, ap (λ b. cond b (Some p.1) (value_at ps n)) e ∙ r.1)
@@ -96,7 +99,8 @@ last_back {X} w ps up nets = unique w (Entry m) (pairs w m) ps (list_of_map w m 
 abbrev pub ReadsBack : {X : Type 0} → ℕ → (Data → Net → X → Type 0) → (Net × X → Data) → Type 0
 ReadsBack {X} w reads form = (p : Net × X) (n : Net) (x : X) → IsNet w p.0 → reads (form p) n x → (n ≡ p.0) × (x ≡ p.1)
 
-each_back : {X : Type 0} (w : ℕ) (reads : Data → Net → X → Type 0) (form : Net × X → Data) → ReadsBack w reads form → (ps qs : List (Net × X)) → AreNets w ps → AreRead reads (map form ps) qs → qs ≡ ps
+each_back : {X : Type 0} (w : ℕ) (reads : Data → Net → X → Type 0) (form : Net × X → Data) → ReadsBack w reads form → (ps qs : List (Net × X))
+    → AreNets w ps → AreRead reads (map form ps) qs → qs ≡ ps
 unfolding AreRead Within
 each_back w reads form one [] [] nets each = refl
 each_back w reads form one [] (q ∷ qs) nets each = absurd each
@@ -113,14 +117,16 @@ list_back w reads form one ps qs up nets read =
     let all = each_back w reads form one ps read.pairs nets (subst (λ ds. AreRead reads ds read.pairs) (sym same) read.each) in
     read.last ∙ ap (last_of_each w) all ∙ last_back w ps up nets
 
-element_of : {X : Type 0} (w : ℕ) (form : Net × X → Data) (ps : List (Net × X)) (at : ℕ) (d : Data) → AreNets w ps → slice_get (map form ps) at ≡ Some d → (p : Net × X) × (IsNet w p.0 × (form p ≡ d))
+element_of : {X : Type 0} (w : ℕ) (form : Net × X → Data) (ps : List (Net × X)) (at : ℕ) (d : Data) → AreNets w ps
+    → slice_get (map form ps) at ≡ Some d → (p : Net × X) × (IsNet w p.0 × (form p ≡ d))
 unfolding Within
 element_of w form [] at d nets e = absurd (let none : None ≡ Some d = e in let bad : ⊥ = cc in bad)
 element_of w form (p ∷ ps) zero d nets e = (p, (nets p.0 p.1 (inl (refl, refl)), some_one (form p) d e))
 element_of w form (p ∷ ps) (suc at) d nets e = element_of w form ps at d (λ n x h. nets n x (inr h)) e
 
 -- No element of what is written is bad.
-pub no_stop : {X : Type 0} (w : ℕ) (reads : Data → Net → X → Type 0) (bad : Data → Type 0) (form : Net × X → Data) → ((p : Net × X) → IsNet w p.0 → bad (form p) → ⊥) → (ps : List (Net × X)) (at : ℕ)
+pub no_stop : {X : Type 0} (w : ℕ) (reads : Data → Net → X → Type 0) (bad : Data → Type 0) (form : Net × X → Data)
+    → ((p : Net × X) → IsNet w p.0 → bad (form p) → ⊥) → (ps : List (Net × X)) (at : ℕ)
     → AreNets w ps → StopsAt reads bad (list_data (map form ps)) at → ⊥
 no_stop w reads bad form good ps at nets stop =
     let same = list_one (map form ps) stop.elements stop.list in
@@ -148,7 +154,8 @@ net_reads w n ok = record {
 
 -- ---- maps
 
-entry_back : {X : Type 0} (w : ℕ) (written : X → Data) (read : Data → Option X) → w ≤ 128 → ((x : X) → read (written x) ≡ Some x) → ReadsBack w (ReadsEntry w read) (entry_data w written)
+entry_back : {X : Type 0} (w : ℕ) (written : X → Data) (read : Data → Option X) → w ≤ 128 → ((x : X) → read (written x) ≡ Some x)
+    → ReadsBack w (ReadsEntry w read) (entry_data w written)
 entry_back w written read h law p n x ok entry =
     let parts = pair_one _ _ _ _ entry.pair in (
       net_back w p.0 n h ok (subst (λ d. ReadsNet w d n) (sym parts.0) entry.net),
@@ -164,14 +171,17 @@ good_prefix : (w : ℕ) (n : Net) → IsNet w n → IsNoPrefix w (net_data w n) 
 good_prefix w n ok none = none n.bits n.len (record { bits_fit = ok.bits_fit; len_fits = ok.len_fits; written = refl })
 
 -- Of what was written of a map nothing is refused but memory.
-pub map_unrefused : {X : Type 0} (w : ℕ) (written : X → Data) (read : Data → Option X) → ((x : X) → read (written x) ≡ Some x) → (ps : List (Net × X)) (e : JsonRefusal)
+pub map_unrefused : {X : Type 0} (w : ℕ) (written : X → Data) (read : Data → Option X) → ((x : X) → read (written x) ≡ Some x)
+    → (ps : List (Net × X)) (e : JsonRefusal)
     → AreNets w ps → RefusesMap w read (map_data w written ps) e → e ≡ NoMemory
 map_unrefused w written read law ps NotList nets why = absurd (why (map (entry_data w written) ps) refl)
 map_unrefused w written read law ps (NotPair at) nets why = absurd (no_stop w _ _ (entry_data w written) (λ p ok bad. bad _ _ refl) ps at nets why)
 map_unrefused w written read law ps (BadPrefix at) nets why =
-    absurd (no_stop w _ _ (entry_data w written) (λ p ok bad. let parts = pair_one _ _ _ _ bad.pair in good_prefix w p.0 ok (subst (IsNoPrefix w) (sym parts.0) bad.bad)) ps at nets why)
+    absurd (no_stop w _ _ (entry_data w written) (λ p ok bad. let parts = pair_one _ _ _ _ bad.pair in
+    good_prefix w p.0 ok (subst (IsNoPrefix w) (sym parts.0) bad.bad)) ps at nets why)
 map_unrefused w written read law ps (BadItem at) nets why =
-    absurd (no_stop w _ _ (entry_data w written) (λ p ok bad. let parts = pair_one _ _ _ _ bad.pair in let none = sym (law p.1) ∙ ap read parts.1 ∙ bad.bad in let wrong : ⊥ = cc in wrong) ps at nets why)
+    absurd (no_stop w _ _ (entry_data w written) (λ p ok bad. let parts = pair_one _ _ _ _ bad.pair in
+    let none = sym (law p.1) ∙ ap read parts.1 ∙ bad.bad in let wrong : ⊥ = cc in wrong) ps at nets why)
 map_unrefused w written read law ps NoMemory nets why = refl
 
 -- ---- sets

@@ -73,7 +73,8 @@ masked_all w n = ap (λ x. n / 2 ^ x * 2 ^ x) (let z : w - w ≡ 0 = omega arith
 
 -- ---- what is written
 
-by_width : (b : Bool) (n m : ℕ) → n < 2 ^ 128 → m < 2 ^ 128 → cond b (number (unsigned n)) (string (hex_text 32 n)) ≡ cond b (number (unsigned m)) (string (hex_text 32 m)) → n ≡ m
+by_width : (b : Bool) (n m : ℕ) → n < 2 ^ 128 → m < 2 ^ 128 → cond b (number (unsigned n)) (string (hex_text 32 n))
+    ≡ cond b (number (unsigned m)) (string (hex_text 32 m)) → n ≡ m
 by_width true n m hn hm e = cc
 by_width false n m hn hm e = let same : hex_text 32 n ≡ hex_text 32 m = cc in text_one 32 n m hn hm same
 

@@ -1,5 +1,6 @@
 -- Numbers in hex digits: each digit, digit by digit, and one number for a text.
-use Rattle.std.proofs.Common.{◌≡◌, ℕ, zero, suc, ◌+◌, ◌-◌, ◌*◌, ◌/◌, ◌%◌, ◌^◌, ◌<◌, ◌≤◌, ◌∙◌, sym, ap, subst, refl, arith, cond, nat_lt, Bool, true, false, List, [], ◌∷◌, ◌++◌, length, length-append, bit_and}
+use Rattle.std.proofs.Common.{◌≡◌, ℕ, zero, suc, ◌+◌, ◌-◌, ◌*◌, ◌/◌, ◌%◌, ◌^◌, ◌<◌, ◌≤◌, ◌∙◌, sym, ap, subst, refl, arith, cond}
+use Rattle.std.proofs.Common.{nat_lt, Bool, true, false, List, [], ◌∷◌, ◌++◌, length, length-append, bit_and}
 use Rattle.std.specs.List.{All}
 use Rattle.std.proofs.lemmas.List.Elements.{All-push, All-nil}
 use Rattle.std.proofs.lemmas.Nat.{div_below, pow-add, and_mask, and_le_r}
@@ -33,7 +34,8 @@ all_digits (suc count) n = All-push IsDigit (hex_text count (n / 16)) (hex_digit
 pub text_length : (count n : ℕ) → length (hex_text count n) ≡ count
 unfolding hex_text
 text_length zero n = refl
-text_length (suc count) n = let l = length-append (hex_text count (n / 16)) (hex_digit (n % 16) ∷ []) in let k = text_length count (n / 16) in omega (arith, l, k)
+text_length (suc count) n = let l = length-append (hex_text count (n / 16)) (hex_digit (n % 16) ∷ []) in
+    let k = text_length count (n / 16) in omega (arith, l, k)
 
 -- ---- one digit more
 
@@ -92,7 +94,8 @@ read_small place n len e lt h =
 
 -- The bound of a number with one digit more.
 pub more_small : (place n v : ℕ) → v < 16 → n < 16 ^ place → n * 16 + v < 16 ^ (place + 1)
-more_small place n v hv h = subst (λ k. n * 16 + v < 16 ^ k) (suc-eq-add-one place) (subst (λ k. n * 16 + v < k) (sym (pow-suc 16 place)) (omega (arith, hv, h)))
+more_small place n v hv h =
+    subst (λ k. n * 16 + v < 16 ^ k) (suc-eq-add-one place) (subst (λ k. n * 16 + v < k) (sym (pow-suc 16 place)) (omega (arith, hv, h)))
 
 -- ---- one number for a text
 
@@ -114,6 +117,7 @@ unfolding hex_text
 text_one zero n m hn hm e = omega (arith, hn, hm)
 text_one (suc count) n m hn hm e =
     let parts = last_apart (hex_text count (n / 16)) (hex_text count (m / 16)) _ _ e in
-    let high = text_one count (n / 16) (m / 16) (div_below n 16 (16 ^ count) (omega arith) (subst (λ k. n < k) (pow-suc 16 count) hn)) (div_below m 16 (16 ^ count) (omega arith) (subst (λ k. m < k) (pow-suc 16 count) hm)) parts.0 in
+    let high = text_one count (n / 16) (m / 16) (div_below n 16 (16 ^ count) (omega arith) (subst (λ k. n < k) (pow-suc 16 count) hn))
+    (div_below m 16 (16 ^ count) (omega arith) (subst (λ k. m < k) (pow-suc 16 count) hm)) parts.0 in
     let low = digit_one (n % 16) (m % 16) (omega arith) (omega arith) parts.1 in
     omega (arith, high, low)

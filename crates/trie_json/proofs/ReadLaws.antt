@@ -1,5 +1,6 @@
 -- What was read of a list so far.
-use Rattle.std.proofs.Common.{◌≡◌, ℕ, ◌+◌, ◌<◌, ◌∙◌, sym, ap, subst, refl, List, [], ◌∷◌, ◌++◌, length, map, reverse, take, get_or, Option, Some, cond, false, inl, inr}
+use Rattle.std.proofs.Common.{◌≡◌, ℕ, ◌+◌, ◌<◌, ◌∙◌, sym, ap, subst, refl, List, [], ◌∷◌, ◌++◌, length, map}
+use Rattle.std.proofs.Common.{reverse, take, get_or, Option, Some, cond, false, inl, inr}
 use Rattle.std.specs.Prelude.{◌⊎◌, slice_get, option_map}
 use Rattle.std.proofs.lemmas.Option.{slice_get-map, slice_get_read, get_or_from_slice_get}
 use Rattle.std.proofs.Math.Seq.{take-suc}
@@ -13,7 +14,8 @@ use Rattle.trie_model.proofs.MapLists.{OfWidth, pairs_with, pairs_none}
 use Rattle.trie_model.proofs.MapLaws.{nets_or, same_map}
 use Rattle.trie_model.proofs.MaskLaws.{masked_net}
 use Rattle.trie_json.specs.Writing.{list_data}
-use Rattle.trie_json.specs.Reading.{AreRead, IsListRead, ReadsNet, StopsAt, last_of_each, ReadsEntry, IsNoPair, HasBadPrefix, HasBadItem, IsBadEntry, RefusesMap}
+use Rattle.trie_json.specs.Reading.{AreRead, IsListRead, ReadsNet, StopsAt, last_of_each, ReadsEntry, IsNoPair}
+use Rattle.trie_json.specs.Reading.{HasBadPrefix, HasBadItem, IsBadEntry, RefusesMap}
 use Rattle.trie_json.specs.declared.refusal.JsonRefusal.{JsonRefusal}
 use Rattle.trie_json.specs.declared.refusal.JsonRefusal.TheVariants.{NotList, NotPair, BadPrefix, BadItem, NoMemory}
 
@@ -38,7 +40,8 @@ same_order a b = by (nets_or a b) (nets_or b a)
     by (inr f) (inl e) = ap (λ x. same_net a x) e ∙ ap (λ x. same_net x a) (sym e)
     by (inr f) (inr g) = f ∙ sym g
 
-each_more : {X : Type 0} (reads : Data → Net → X → Type 0) (ds : List Data) (ps : List (Net × X)) (d : Data) (n : Net) (x : X) → AreRead reads ds ps → reads d n x → AreRead reads (ds ++ d ∷ []) (ps ++ (n, x) ∷ [])
+each_more : {X : Type 0} (reads : Data → Net → X → Type 0) (ds : List Data) (ps : List (Net × X)) (d : Data) (n : Net) (x : X) → AreRead reads ds ps
+    → reads d n x → AreRead reads (ds ++ d ∷ []) (ps ++ (n, x) ∷ [])
 unfolding AreRead
 each_more reads [] [] d n x each now = (now, tt)
 each_more reads [] (p ∷ ps) d n x each now = absurd each
@@ -85,26 +88,42 @@ pub element_at : {A B : Type 0} (f : A → B) (xs : List A) (at : ℕ) (x : A) �
 element_at f xs at x lt e = slice_get-map f xs at ∙ ap (option_map f) (slice_get_read xs (length xs) at x refl lt e)
 
 -- The elements up to and with it.
-pub take_element : {A B : Type 0} (f : A → B) (xs : List A) (at : ℕ) (x : A) → at < length xs → x ≡ get_or xs at x → take (at + 1) (map f xs) ≡ take at (map f xs) ++ f x ∷ []
+pub take_element : {A B : Type 0} (f : A → B) (xs : List A) (at : ℕ) (x : A) → at < length xs → x ≡ get_or xs at x
+    → take (at + 1) (map f xs) ≡ take at (map f xs) ++ f x ∷ []
 take_element f xs at x lt e =
-    take_next (map f xs) at (f x) (f x) (subst (λ k. at < k) (sym (length-map xs f)) lt) (get_or_from_slice_get (map f xs) at (f x) (f x) (element_at f xs at x lt e))
+    take_next (map f xs) at (f x) (f x) (subst (λ k. at < k) (sym (length-map xs f)) lt)
+    (get_or_from_slice_get (map f xs) at (f x) (f x) (element_at f xs at x lt e))
 
 -- ---- the end
 
 -- The list stops at a bad element.
-pub stops : {X : Type 0} (reads : Data → Net → X → Type 0) (bad : Data → Type 0) (w : ℕ) (d : Data) (ds : List Data) (ps : List (Net × X)) (at : ℕ) (element : Data)
+pub stops : {X : Type 0} (reads : Data → Net → X → Type 0) (bad : Data → Type 0) (w : ℕ) (d : Data) (ds : List Data) (ps : List (Net × X))
+    (at : ℕ) (element : Data)
     → d ≡ list_data ds → ReadSoFar reads w (take at ds) ps → slice_get ds at ≡ Some element → bad element → StopsAt reads bad d at
-stops reads bad w d ds ps at element is so there why = record { elements = ds; list = is; pairs = so.pairs; before = so.each; element = element; there = there; is_bad = why }
+stops reads bad w d ds ps at element is so there why = record {
+  elements = ds;
+  list = is;
+  pairs = so.pairs;
+  before = so.each;
+  element = element;
+  there = there;
+  is_bad = why;
+}
 
 -- What is wrong with an element is what is wrong with the list.
 pub refused_at : {X : Type 0} (w : ℕ) (read : Data → Option X) (d : Data) (ds : List Data) (ps : List (Net × X)) (at : ℕ) (element : Data) (e : JsonRefusal)
-    → d ≡ list_data ds → ReadSoFar (ReadsEntry w read) w (take at ds) ps → slice_get ds at ≡ Some element → IsBadEntry w read element at e → RefusesMap w read d e
+    → d ≡ list_data ds → ReadSoFar (ReadsEntry w read) w (take at ds) ps → slice_get ds at ≡ Some element → IsBadEntry w read element at e
+    → RefusesMap w read d e
 refused_at w read d ds ps at element NotList is so there why = absurd why
-refused_at w read d ds ps at element (NotPair k) is so there why = subst (StopsAt (ReadsEntry w read) IsNoPair d) (sym why.0) (stops (ReadsEntry w read) IsNoPair w d ds ps at element is so there why.1)
-refused_at w read d ds ps at element (BadPrefix k) is so there why = subst (StopsAt (ReadsEntry w read) (HasBadPrefix w) d) (sym why.0) (stops (ReadsEntry w read) (HasBadPrefix w) w d ds ps at element is so there why.1)
-refused_at w read d ds ps at element (BadItem k) is so there why = subst (StopsAt (ReadsEntry w read) (HasBadItem w read) d) (sym why.0) (stops (ReadsEntry w read) (HasBadItem w read) w d ds ps at element is so there why.1)
+refused_at w read d ds ps at element (NotPair k) is so there why =
+    subst (StopsAt (ReadsEntry w read) IsNoPair d) (sym why.0) (stops (ReadsEntry w read) IsNoPair w d ds ps at element is so there why.1)
+refused_at w read d ds ps at element (BadPrefix k) is so there why = subst (StopsAt (ReadsEntry w read) (HasBadPrefix w) d) (sym why.0)
+    (stops (ReadsEntry w read) (HasBadPrefix w) w d ds ps at element is so there why.1)
+refused_at w read d ds ps at element (BadItem k) is so there why = subst (StopsAt (ReadsEntry w read) (HasBadItem w read) d) (sym why.0)
+    (stops (ReadsEntry w read) (HasBadItem w read) w d ds ps at element is so there why.1)
 refused_at w read d ds ps at element NoMemory is so there why = tt
 
 -- All elements were read.
-pub all_read : {X : Type 0} (reads : Data → Net → X → Type 0) (w : ℕ) (d : Data) (ds : List Data) (ps : List (Net × X)) → d ≡ list_data ds → ReadSoFar reads w ds ps → IsListRead reads w d ps
+pub all_read : {X : Type 0} (reads : Data → Net → X → Type 0) (w : ℕ) (d : Data) (ds : List Data) (ps : List (Net × X)) → d ≡ list_data ds
+    → ReadSoFar reads w ds ps → IsListRead reads w d ps
 all_read reads w d ds ps is so = record { elements = ds; list = is; pairs = so.pairs; each = so.each; last = so.last }

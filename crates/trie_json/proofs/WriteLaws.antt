@@ -15,11 +15,13 @@ pub record WrittenSoFar {X : Type 0} (w : ℕ) (form : Net × X → Data) (to_co
   pub written : ds ≡ map form done
 
 -- At the start all are still to come.
-pub none_written : {X : Type 0} (w : ℕ) (form : Net × X → Data) (to_come : Net → X → Type 0) (all : List (Net × X)) (ds : List Data) → IsListOf w to_come all → ds ≡ [] → WrittenSoFar w form to_come all ds
+pub none_written : {X : Type 0} (w : ℕ) (form : Net × X → Data) (to_come : Net → X → Type 0) (all : List (Net × X)) (ds : List Data)
+    → IsListOf w to_come all → ds ≡ [] → WrittenSoFar w form to_come all ds
 none_written w form to_come all ds list e = record { done = []; left = all; whole = refl; list = list; written = e }
 
 -- The next pair was written.
-pub more_written : {X : Type 0} (w : ℕ) (form : Net × X → Data) (old new : Net → X → Type 0) (all qs : List (Net × X)) (ds es : List Data) (d : Data) (n : Net) (x : X)
+pub more_written : {X : Type 0} (w : ℕ) (form : Net × X → Data) (old new : Net → X → Type 0) (all qs : List (Net × X)) (ds es : List Data)
+    (d : Data) (n : Net) (x : X)
     → (so : WrittenSoFar w form old all ds) → ListGoesOn w new n x so.left qs → es ≡ ds ++ d ∷ [] → d ≡ form (n, x) → WrittenSoFar w form new all es
 more_written w form old new all qs ds es d n x so on e is = record {
   done = so.done ++ (n, x) ∷ [];
@@ -40,5 +42,6 @@ next_within {X} w form old new all qs ds n x so on = subst (λ zs. Within zs n x
     behind (z ∷ zs) = inr (behind zs)
 
 -- At the end all were written.
-pub all_written : {X : Type 0} (w : ℕ) (form : Net × X → Data) (to_come : Net → X → Type 0) (all : List (Net × X)) (ds : List Data) → (so : WrittenSoFar w form to_come all ds) → so.left ≡ [] → ds ≡ map form all
+pub all_written : {X : Type 0} (w : ℕ) (form : Net × X → Data) (to_come : Net → X → Type 0) (all : List (Net × X)) (ds : List Data)
+    → (so : WrittenSoFar w form to_come all ds) → so.left ≡ [] → ds ≡ map form all
 all_written w form to_come all ds so e = so.written ∙ ap (map form) (sym (so.whole ∙ ap (λ zs. so.done ++ zs) e ∙ append-nil so.done))

@@ -1,5 +1,6 @@
 -- Which JSON is a map or a set of prefixes, and what is wrong with other JSON.
-use Rattle.std.specs.Prelude.{◌≡◌, ◌≢◌, ℕ, ◌^◌, ◌<◌, ◌≤◌, ⊤, List, [], ◌∷◌, reverse, take, Option, Some, None, slice_get}
+use Rattle.std.specs.Prelude.{◌≡◌, ◌≢◌, ℕ, ◌^◌, ◌<◌, ◌≤◌, ⊤, List, [], ◌∷◌, reverse, take}
+use Rattle.std.specs.Prelude.{Option, Some, None, slice_get}
 use Rattle.serde_json.specs.Data.{Data}
 use Rattle.trie_model.specs.Maps.{pairs, value_at}
 use Rattle.trie_model.specs.Nets.{Net}
@@ -88,7 +89,8 @@ abbrev pub last_of_each : {X : Type 0} → ℕ → List (Net × X) → List (Net
 last_of_each w ps = pairs w (value_at (reverse ps))
 
 -- This is a list whose elements are read; a later pair of a prefix wins.
-pub record IsListRead {X : Type 0} (reads : Data → Net → X → Type 0) (w : ℕ) (d : Data) (ps : List (Net × X)) : Type 0 where
+pub record IsListRead {X : Type 0} (reads : Data → Net → X → Type 0) (w : ℕ) (d : Data)
+    (ps : List (Net × X)) : Type 0 where
   pub elements : List Data
   pub list : d ≡ list_data elements
   pub pairs : List (Net × X)
@@ -96,7 +98,8 @@ pub record IsListRead {X : Type 0} (reads : Data → Net → X → Type 0) (w : 
   pub last : ps ≡ last_of_each w pairs
 
 -- This is a list whose first bad element is this one.
-pub record StopsAt {X : Type 0} (reads : Data → Net → X → Type 0) (bad : Data → Type 0) (d : Data) (at : ℕ) : Type 0 where
+pub record StopsAt {X : Type 0} (reads : Data → Net → X → Type 0) (bad : Data → Type 0) (d : Data)
+    (at : ℕ) : Type 0 where
   pub elements : List Data
   pub list : d ≡ list_data elements
   pub pairs : List (Net × X)

@@ -43,6 +43,16 @@ pub struct CoveringUnionView<'a, P: PlainPrefix, L, R, S, T> {
     pub(crate) of: PhantomData<&'a ()>,
 }
 
+/// The covering union of two views.
+type CoveringUnionOf<'a, L, R> = CoveringUnionView<
+    'a,
+    <L as TrieView<'a>>::P,
+    L,
+    R,
+    <L as TrieView<'a>>::T,
+    <R as TrieView<'a>>::T,
+>;
+
 /// A union's item with the longest pair of the other side that contains its prefix.
 fn with_longest<'a, L: CloneView<'a>, R: CloneView<'a, P = L::P>>(
     item: UnionItem<L::T, R::T>,
@@ -251,7 +261,8 @@ where
         self
     }
 
-    ghost stands_law = { λ a b v. show_equal ⟦<CoveringUnionView<'a, L::P, L, R, L::T, R::T> as TrieView<'a>>⟧.told a b v };
+    ghost stands_law = { λ a b v.
+        show_equal ⟦<CoveringUnionView<'a, L::P, L, R, L::T, R::T> as TrieView<'a>>⟧.told a b v };
 }
 
 /// The pairs of either view, at the longest prefix that contains both places, those of one alone with the
@@ -259,17 +270,17 @@ where
 pub(crate) fn covering_union_of<'a, L: CloneView<'a>, R: CloneView<'a, P = L::P>>(
     left: L,
     right: R,
-) -> Result<CoveringUnionView<'a, L::P, L, R, L::T, R::T>, NoMemory>
+) -> Result<CoveringUnionOf<'a, L, R>, NoMemory>
 where
     L::T: Copy,
     R::T: Copy,
     requires left { L.valid left }
     requires right { R.valid right }
-    ensures usable { IfOk result (λ v. ⟦<CoveringUnionView<'a, L::P, L, R, L::T, R::T> as TrieView<'a>>⟧.valid v) }
+    ensures usable { IfOk result (λ v. ⟦<CoveringUnionOf<'a, L, R> as TrieView<'a>>⟧.valid v) }
     ensures place { IfOk result (λ v.
         IsLongestCommon L.P.Number.width (L.told left).place (R.told right).place
-        (⟦<CoveringUnionView<'a, L::P, L, R, L::T, R::T> as TrieView<'a>>⟧.told v).place) }
-    ensures pairs { GivesPairs ⟦<CoveringUnionView<'a, L::P, L, R, L::T, R::T> as TrieView<'a>>⟧.told result
+        (⟦<CoveringUnionOf<'a, L, R> as TrieView<'a>>⟧.told v).place) }
+    ensures pairs { GivesPairs ⟦<CoveringUnionOf<'a, L, R> as TrieView<'a>>⟧.told result
         (covering_pairs L.P.Number.width L.P.net L.P.raw (L.told left) (R.told right)) }
     ensures frugal { IsTrue ((L.told left).frugal && (R.told right).frugal) → IsOk result }
 {
@@ -307,22 +318,16 @@ where
 {
     /// The pairs of either view, at the longest prefix that contains both places, those of one alone with
     /// the longest pair of the other that contains their prefix.
-    fn covering_union(
-        self,
-        other: R,
-    ) -> Result<
-        CoveringUnionView<'a, <Self as TrieView<'a>>::P, Self, R, <Self as TrieView<'a>>::T, R::T>,
-        NoMemory,
-    >
+    fn covering_union(self, other: R) -> Result<CoveringUnionOf<'a, Self, R>, NoMemory>
         requires usable { Self.TrieView.valid self }
         requires other { R.valid other }
         ensures usable { IfOk result
-            ⟦<CoveringUnionView<'a, <Self as TrieView<'a>>::P, Self, R, <Self as TrieView<'a>>::T, R::T> as TrieView<'a>>⟧.valid }
+            ⟦<CoveringUnionOf<'a, Self, R> as TrieView<'a>>⟧.valid }
         ensures place { IfOk result (λ v.
             IsLongestCommon Self.P.Number.width (Self.TrieView.told self).place (R.told other).place
-            (⟦<CoveringUnionView<'a, <Self as TrieView<'a>>::P, Self, R, <Self as TrieView<'a>>::T, R::T> as TrieView<'a>>⟧.told v).place) }
+            (⟦<CoveringUnionOf<'a, Self, R> as TrieView<'a>>⟧.told v).place) }
         ensures pairs { GivesPairs
-            ⟦<CoveringUnionView<'a, <Self as TrieView<'a>>::P, Self, R, <Self as TrieView<'a>>::T, R::T> as TrieView<'a>>⟧.told result
+            ⟦<CoveringUnionOf<'a, Self, R> as TrieView<'a>>⟧.told result
             (covering_pairs Self.P.Number.width Self.P.net Self.P.raw (Self.TrieView.told self) (R.told other)) }
         ensures frugal { IsTrue ((Self.TrieView.told self).frugal && (R.told other).frugal) → IsOk result };
 }
@@ -332,10 +337,7 @@ where
     V::T: Copy,
     R::T: Copy,
 {
-    fn covering_union(
-        self,
-        other: R,
-    ) -> Result<CoveringUnionView<'a, V::P, V, R, V::T, R::T>, NoMemory> {
+    fn covering_union(self, other: R) -> Result<CoveringUnionOf<'a, V, R>, NoMemory> {
         covering_union_of(self, other)
     }
 }

@@ -1,6 +1,7 @@
 //! The search for the longest pair that contains a prefix.
 
-ghost use Rattle.std.specs.Prelude.{◌≡◌, ◌↔◌, ℕ, ◌+◌, ◌-◌, ◌*◌, ◌/◌, ◌^◌, ◌<◌, ◌≤◌, true, Some, None, IsTrue, IfOk, IsOk};
+ghost use Rattle.std.specs.Prelude.{◌≡◌, ◌↔◌, ℕ, ◌+◌, ◌-◌, ◌*◌, ◌/◌, ◌^◌, ◌<◌, ◌≤◌, true, Some};
+ghost use Rattle.std.specs.Prelude.{None, IsTrue, IfOk, IsOk};
 ghost use Rattle.std.specs.Result.{OnOk};
 ghost use Rattle.trie_model.specs.Nets.{Net, IsNet, covers};
 ghost use Rattle.trie_model.specs.Views.{depth_at};

@@ -4,7 +4,8 @@ ghost use Rattle.std.specs.Prelude.{◌≡◌, ℕ, ◌+◌, ◌^◌, ◌<◌, �
 ghost use Rattle.std.specs.Result.{OnOk};
 ghost use Rattle.trie_model.specs.Nets.{Net, IsNet, covers, net_of};
 ghost use Rattle.trie_model.specs.Views.{depth_at, CanMove};
-ghost use Rattle.view_model.specs.Sides.{HasRoomForChild, IsAlignedSide, IsInnerSide, IsUsableSide, SideMoved, SideSplit};
+ghost use Rattle.view_model.specs.Sides.{HasRoomForChild, IsAlignedSide, IsInnerSide};
+ghost use Rattle.view_model.specs.Sides.{IsUsableSide, SideMoved, SideSplit};
 ghost use Rattle.view_model.specs.Sides.{side_child_bits, side_data_bits, side_frugal};
 ghost use Rattle.view_model.specs.Union.{SideTook};
 

@@ -176,7 +176,8 @@ cover_found_here valid tell w law net t v ok short r =
     here p q = omega arith
 
 -- Everything is hidden.
-pub covered_bits_all : {V Y : Type 0} (w : ℕ) (tell : V → ViewValue Y) (place : Net) (side : Option V) → CoveredBits w place tell true side 4294967295 4294967295
+pub covered_bits_all : {V Y : Type 0} (w : ℕ) (tell : V → ViewValue Y) (place : Net) (side : Option V)
+    → CoveredBits w place tell true side 4294967295 4294967295
 covered_bits_all w tell place side = record {
   data_fit = omega arith;
   children_fit = omega arith;

@@ -6,7 +6,8 @@ use Rattle.std.proofs.lemmas.Nat.{and_le_l}
 use Rattle.std.proofs.lemmas.Nat.Bits.{bit_at_and}
 use Rattle.trie_model.specs.Nets.{Net, IsNet, covers, masked}
 use Rattle.trie_model.specs.Views.{depth_at, level_of, data_net, child_net, child_toward, ViewValue, IsView, TookData, TookChild, IsChild, CanMove, Moved}
-use Rattle.trie_model.proofs.Places.{bit_below, not_one, not_true, elim-false, covers_len, covers_way, depth_le, same_data_net, same_child_net, toward_covers, level_le}
+use Rattle.trie_model.proofs.Places.{bit_below, not_one, not_true, elim-false, covers_len, covers_way, depth_le}
+use Rattle.trie_model.proofs.Places.{same_data_net, same_child_net, toward_covers, level_le}
 use Rattle.trie_model.proofs.NodeLaws.{covers_trans, covers_between}
 use Rattle.view_model.specs.Sides.{SideHasPrefix, SideSplit}
 use Rattle.view_model.specs.CoveringDifference.{IsCovered, IsCoveredByShorter, CoveredBits, covering_difference_told}

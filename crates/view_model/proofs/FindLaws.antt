@@ -29,7 +29,8 @@ whole w net t ok c = record {
 }
 
 -- The prefix is no longer than the place, and doesn't contain it.
-pub apart_short : {X : Type 0} (w : ℕ) (net : Net) (t : ViewValue X) → IsView w t → net.len ≤ t.place.len → (covers w net t.place ≡ true → ⊥) → HasNoneIn w net t
+pub apart_short : {X : Type 0} (w : ℕ) (net : Net) (t : ViewValue X) → IsView w t → net.len ≤ t.place.len
+    → (covers w net t.place ≡ true → ⊥) → HasNoneIn w net t
 apart_short w net t ok le p = record {
   none = λ n x h c. p (covers_between w net t.place n ok.place_ok.len_fits le c (ok.pairs n x h).1);
   not_all = p;
@@ -89,7 +90,8 @@ find_none {X} w bit net t u ok fits deep e off lt r = record {
 }
 
 -- In the node of the prefix.
-pub find_can : {X : Type 0} (w : ℕ) (net : Net) (t u : ViewValue X) → IsNet w net → net.len < depth_at u.place.len + 5 → Finding w net t u → CanMove w u.place net
+pub find_can : {X : Type 0} (w : ℕ) (net : Net) (t u : ViewValue X) → IsNet w net → net.len < depth_at u.place.len + 5 → Finding w net t u
+    → CanMove w u.place net
 find_can w net t u fits short r = record {
   fits = fits;
   within = r.inside;

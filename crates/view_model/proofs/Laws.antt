@@ -4,7 +4,8 @@ use Rattle.std.proofs.lemmas.Option.{none-some, same_Some}
 use Rattle.trie_model.specs.Nets.{Net}
 use Rattle.trie_model.specs.Views.{ViewValue, Has, IsView}
 use Rattle.view_model.specs.Union.{union_pairs}
-use Rattle.view_model.specs.Laws.{CoveringDifferenceHasWhatIsOutside, CoveringUnionIsUnion, DifferenceHasWhatIsLeft, IntersectionHasWhatBothHave, UnionLacksWhatBothLack, UnionShowsBoth}
+use Rattle.view_model.specs.Laws.{CoveringDifferenceHasWhatIsOutside, CoveringUnionIsUnion, DifferenceHasWhatIsLeft}
+use Rattle.view_model.specs.Laws.{IntersectionHasWhatBothHave, UnionLacksWhatBothLack, UnionShowsBoth}
 use Rattle.view_model.specs.declared.items.UnionItem.{UnionItem}
 use Rattle.view_model.specs.declared.items.UnionItem.TheVariants as U
 use Rattle.view_model.specs.declared.items.CoveringUnionItem.TheVariants.{Left, Right, Both}

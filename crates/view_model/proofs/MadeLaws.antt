@@ -47,7 +47,8 @@ difference_made valid tell w left t side ok found n x = (
 )
 
 -- A covering difference with what the search gives is the covering difference.
-pub outside_made : {V X Y : Type 0} (valid : V → Type 0) (tell : V → ViewValue Y) (w : ℕ) (left : ViewValue X) (t : ViewValue Y) (covered : Bool) (side : Option V) →
+pub outside_made : {V X Y : Type 0} (valid : V → Type 0) (tell : V → ViewValue Y) (w : ℕ) (left : ViewValue X) (t : ViewValue Y)
+    (covered : Bool) (side : Option V) →
     IsView w left → CoverFound valid tell w left.place t covered side → (n : Net) (x : X) → (left.at n x × (IsCovered w tell covered side n → ⊥)) ↔
     (left.at n x × (HasCover w t n → ⊥))
 outside_made valid tell w left t covered side ok met n x = (

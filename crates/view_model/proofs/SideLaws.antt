@@ -9,7 +9,8 @@ use Rattle.trie_model.specs.Nets.{Net, IsNet, covers, masked}
 use Rattle.trie_model.specs.Views.{depth_at, data_net, child_net, child_toward, ViewValue, Has, IsView}
 use Rattle.trie_model.proofs.Places.{both_hold, elim-false, depth_le, level_le, same_data_net, covers_len, covers_way, covers_toward, toward_covers}
 use Rattle.trie_model.proofs.NodeLaws.{covers_trans}
-use Rattle.view_model.specs.Sides.{SideHasItem, SideHasPrefix, IsAligned, IsUsableSide, IsAlignedSide, IsInnerSide, side_data_bits, side_child_bits, HasRoomForChild}
+use Rattle.view_model.specs.Sides.{SideHasItem, SideHasPrefix, IsAligned, IsUsableSide, IsAlignedSide, IsInnerSide}
+use Rattle.view_model.specs.Sides.{side_data_bits, side_child_bits, HasRoomForChild}
 use Rattle.view_model.proofs.Bits.{one-zero, depth_step}
 
 -- ---- a side that lies in a place is aligned with it

@@ -33,7 +33,8 @@ moved_place : (w : ℕ) (place a b : Net) → a ≡ b → IsAligned w place b �
 moved_place w place a b e al = rw e al
 
 -- The child_bits of a side in the node itself.
-children_here : {V Y : Type 0} (tell : V → ViewValue Y) (w d : ℕ) (v : V) → depth_at (tell v).place.len ≡ d → side_child_bits tell w d (Some v) ≡ (tell v).child_bits
+children_here : {V Y : Type 0} (tell : V → ViewValue Y) (w d : ℕ) (v : V) → depth_at (tell v).place.len ≡ d
+    → side_child_bits tell w d (Some v) ≡ (tell v).child_bits
 children_here tell w d v e = ap (λ b. cond b (tell v).child_bits (2 ^ child_toward w d (tell v).place.bits)) (eq-eqb _ _ e)
 
 off_cond : (a d : ℕ) (b : Bool) (x y : ℕ) → eqb a d ≡ b → (a ≡ d → ⊥) → cond b x y ≡ y
@@ -162,7 +163,8 @@ pub side_deeper : {V Y : Type 0} (tell : V → ViewValue Y) (w d : ℕ) (v : V) 
 side_deeper tell w d v ne = children_away tell w d v ne
 
 -- The data bits of a side in the node are its own.
-pub bits_at_depth : {V Y : Type 0} (tell : V → ViewValue Y) (d : ℕ) (v : V) → depth_at (tell v).place.len ≡ d → side_data_bits tell d (Some v) ≡ (tell v).data_bits
+pub bits_at_depth : {V Y : Type 0} (tell : V → ViewValue Y) (d : ℕ) (v : V) → depth_at (tell v).place.len ≡ d
+    → side_data_bits tell d (Some v) ≡ (tell v).data_bits
 bits_at_depth tell d v e = ap (λ b. cond b (tell v).data_bits 0) (eq-eqb _ _ e)
 
 -- A side below the node has no data bits there.

@@ -20,7 +20,8 @@ through_laws w R t ok one total = record {
 }
 
 -- After a pair was taken.
-pub through_took : {X Y : Type 0} (w bit : ℕ) (R : X → Y → Type 0) (t u : ViewValue X) → TookData w bit t u → TookData w bit (through_told R t) (through_told R u)
+pub through_took : {X Y : Type 0} (w bit : ℕ) (R : X → Y → Type 0) (t u : ViewValue X) → TookData w bit t u
+    → TookData w bit (through_told R t) (through_told R u)
 through_took w bit R t u took = record {
   place = took.place;
   child_bits = took.child_bits;
@@ -47,7 +48,8 @@ through_took_child w bit R t u took = record {
 }
 
 -- The child.
-pub through_child : {X Y : Type 0} (w bit : ℕ) (R : X → Y → Type 0) (t u : ViewValue X) → IsChild w bit t u → IsChild w bit (through_told R t) (through_told R u)
+pub through_child : {X Y : Type 0} (w bit : ℕ) (R : X → Y → Type 0) (t u : ViewValue X) → IsChild w bit t u
+    → IsChild w bit (through_told R t) (through_told R u)
 through_child w bit R t u is = record {
   place = is.place;
   at = λ n y. (
@@ -58,7 +60,8 @@ through_child w bit R t u is = record {
 }
 
 -- The view at a new place.
-pub through_moved : {X Y : Type 0} (w : ℕ) (to : Net) (R : X → Y → Type 0) (t u : ViewValue X) → Moved w to t u → Moved w to (through_told R t) (through_told R u)
+pub through_moved : {X Y : Type 0} (w : ℕ) (to : Net) (R : X → Y → Type 0) (t u : ViewValue X) → Moved w to t u
+    → Moved w to (through_told R t) (through_told R u)
 through_moved w to R t u moved = record {
   place = moved.place;
   at = λ n y. (

@@ -12,7 +12,8 @@ use Rattle.view_model.specs.Union.{union_at, union_pairs, union_told, FindsItem,
 use Rattle.view_model.specs.declared.items.UnionItem.{UnionItem}
 use Rattle.view_model.specs.declared.items.UnionItem.TheVariants.{Left, Right, Both}
 use Rattle.view_model.proofs.Bits.{one-zero, or_bit, or_bit_l, or_bit_r, or_same, or_zero, either, bit_cases}
-use Rattle.view_model.proofs.SideLaws.{side_in_ok, in_valid, side_pairs, side_inside, side_one, side_told, side_untold, side_fits, side_child_bits_fit, side_below, side_deep}
+use Rattle.view_model.proofs.SideLaws.{side_in_ok, in_valid, side_pairs, side_inside, side_one, side_told, side_untold}
+use Rattle.view_model.proofs.SideLaws.{side_fits, side_child_bits_fit, side_below, side_deep}
 use Rattle.view_model.proofs.SideMoves.{split_child, split_rest}
 
 -- Both sides keep the same pairs.

@@ -11,7 +11,8 @@ IsCovered w tell covered side n = (covered ≡ true) ⊎ ((m : Net) × ((covers 
 
 -- The same, of the prefixes that are shorter than this.
 abbrev pub IsCoveredByShorter : {V Y : Type 0} → ℕ → (V → ViewValue Y) → Bool → Option V → ℕ → Net → Type 0
-IsCoveredByShorter w tell covered side limit n = (covered ≡ true) ⊎ ((m : Net) × ((m.len < limit) × (covers w m n ≡ true) × SideHasPrefix tell side m))
+IsCoveredByShorter w tell covered side limit n =
+    (covered ≡ true) ⊎ ((m : Net) × ((m.len < limit) × (covers w m n ≡ true) × SideHasPrefix tell side m))
 
 -- These data bits and children of the node lie in a prefix of the side.
 pub record CoveredBits {V Y : Type 0} (w : ℕ) (place : Net) (tell : V →
@@ -21,14 +22,17 @@ pub record CoveredBits {V Y : Type 0} (w : ℕ) (place : Net) (tell : V →
   pub data_in : (bit : ℕ) → bit < 31 → depth_at place.len + level_of bit ≤ w → bit_at covered_data bit ≡ 1 →
       IsCoveredByShorter w tell covered side (depth_at place.len + 5) (data_net w place bit)
   pub data_all : (bit : ℕ) → bit < 31 → depth_at place.len + level_of bit ≤ w →
-      IsCoveredByShorter w tell covered side (depth_at place.len + 5) (data_net w place bit) → bit_at covered_data bit ≡ 1
+      IsCoveredByShorter w tell covered side (depth_at place.len + 5) (data_net w place bit)
+      → bit_at covered_data bit ≡ 1
   pub children_in : (bit : ℕ) → bit < 32 → depth_at place.len + 5 ≤ w → bit_at covered_children bit ≡ 1 →
       IsCoveredByShorter w tell covered side (depth_at place.len + 5) (child_net w place bit)
   pub children_all : (bit : ℕ) → bit < 32 → depth_at place.len + 5 ≤ w →
-      IsCoveredByShorter w tell covered side (depth_at place.len + 5) (child_net w place bit) → bit_at covered_children bit ≡ 1
+      IsCoveredByShorter w tell covered side (depth_at place.len + 5) (child_net w place bit)
+      → bit_at covered_children bit ≡ 1
 
 -- What contracts see of a covering difference.
-abbrev pub covering_difference_told : {V X Y : Type 0} → ℕ → (V → ViewValue Y) → ViewValue X → Bool → Option V → ℕ → ℕ → ViewValue X
+abbrev pub covering_difference_told : {V X Y : Type 0} → ℕ → (V → ViewValue Y) → ViewValue X → Bool
+    → Option V → ℕ → ℕ → ViewValue X
 covering_difference_told w tell left covered side covered_data covered_children = record {
   place = left.place;
   data_bits = bit_and left.data_bits (bit_not w32 covered_data);

@@ -45,7 +45,8 @@ pub record FindingCover {X : Type 0} (w : ℕ) (net : Net) (t u : ViewValue X) :
   pub frugal : IsTrue t.frugal → IsTrue u.frugal
 
 -- What such a search gives: whether a prefix above contains all, and a side with the others.
-pub record CoverFound {V Y : Type 0} (valid : V → Type 0) (tell : V → ViewValue Y) (w : ℕ) (net : Net) (t : ViewValue Y) (covered : Bool) (side : Option V) : Type 0 where
+pub record CoverFound {V Y : Type 0} (valid : V → Type 0) (tell : V → ViewValue Y) (w : ℕ) (net : Net) (t : ViewValue Y)
+    (covered : Bool) (side : Option V) : Type 0 where
   pub ok : IsAlignedSide valid tell w net side
   pub same : (n : Net) → n.len ≤ w → covers w net n ≡ true → IsCovered w tell covered side n ↔ HasCover w t n
   pub frugal : IsTrue t.frugal → IsTrue (side_frugal tell side)

@@ -15,7 +15,9 @@ intersection_told left right = record {
 }
 
 -- What an intersection of two views is: their common prefixes at the longer place, or that there is none.
-abbrev pub FindsCommon : {V X Y : Type 0} → (V → Type 0) → (V → ViewValue (X × Y)) → ViewValue X → ViewValue Y → Option V → Type 0
-FindsCommon {V} {X} {Y} valid tell s t None = ((n : Net) (x : X) (y : Y) → s.at n x → t.at n y → ⊥) × (s.place ≡ t.place → ⊥)
+abbrev pub FindsCommon : {V X Y : Type 0} → (V → Type 0) → (V → ViewValue (X × Y)) → ViewValue X
+    → ViewValue Y → Option V → Type 0
+FindsCommon {V} {X} {Y} valid tell s t None =
+    ((n : Net) (x : X) (y : Y) → s.at n x → t.at n y → ⊥) × (s.place ≡ t.place → ⊥)
 FindsCommon {V} {X} {Y} valid tell s t (Some v) = valid v × ((tell v).place ≡ longer s.place t.place) ×
     ((n : Net) (p : X × Y) → (tell v).at n p ↔ (s.at n p.0 × t.at n p.1))

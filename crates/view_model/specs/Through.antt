@@ -14,7 +14,13 @@ through_told {X} R t = record {
 
 -- The same, of a view that takes memory.
 abbrev pub wasteful_told : {X : Type 0} → ViewValue X → ViewValue X
-wasteful_told t = record { place = t.place; data_bits = t.data_bits; child_bits = t.child_bits; at = t.at; frugal = false }
+wasteful_told t = record {
+  place = t.place;
+  data_bits = t.data_bits;
+  child_bits = t.child_bits;
+  at = t.at;
+  frugal = false;
+}
 
 -- A closure answers as a function of what contracts see of its argument.
 pub record AnswersAsFunction {T X U : Type 0} (item : T → X) (post : T → U → Type 0) : Type 0 where

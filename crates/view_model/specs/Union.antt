@@ -3,7 +3,8 @@ use Rattle.std.specs.Prelude.{◌≡◌, ℕ, ◌&&◌, ◌≤◌, true, false, 
 use Rattle.std.specs.Int.RustNames.{bit_or}
 use Rattle.trie_model.specs.Nets.{Net, covers}
 use Rattle.trie_model.specs.Views.{ViewValue, Has, depth_at, data_net, same_net}
-use Rattle.view_model.specs.Sides.{SideHasItem, SideHasPrefix, IsInnerSide, side_data_bits, side_child_bits, side_frugal}
+use Rattle.view_model.specs.Sides.{SideHasItem, SideHasPrefix, IsInnerSide, side_data_bits}
+use Rattle.view_model.specs.Sides.{side_child_bits, side_frugal}
 use Rattle.view_model.specs.declared.items.UnionItem.{UnionItem}
 use Rattle.view_model.specs.declared.items.UnionItem.TheVariants.{Left, Right, Both}
 
@@ -14,7 +15,8 @@ union_value f g (Right b) = Right (g b)
 union_value f g (Both a b) = Both (f a) (g b)
 
 -- A pair of either side, with the items of both where both have the prefix.
-abbrev pub union_at : {A B X Y : Type 0} → (A → ViewValue X) → (B → ViewValue Y) → Option A → Option B → Net → UnionItem X Y → Type 0
+abbrev pub union_at : {A B X Y : Type 0} → (A → ViewValue X) → (B → ViewValue Y) → Option A → Option B → Net
+    → UnionItem X Y → Type 0
 union_at ta tb a b n (Left x) = SideHasItem ta a n x × (SideHasPrefix tb b n → ⊥)
 union_at ta tb a b n (Right y) = SideHasItem tb b n y × (SideHasPrefix ta a n → ⊥)
 union_at ta tb a b n (Both x y) = SideHasItem ta a n x × SideHasItem tb b n y
@@ -24,11 +26,13 @@ abbrev pub either_data_bits : {A B X Y : Type 0} → (A → ViewValue X) → (B 
 either_data_bits ta tb d a b = bit_or (side_data_bits ta d a) (side_data_bits tb d b)
 
 -- The children of the node at this depth below which either side may have a pair.
-abbrev pub either_child_bits : {A B X Y : Type 0} → (A → ViewValue X) → (B → ViewValue Y) → ℕ → ℕ → Option A → Option B → ℕ
+abbrev pub either_child_bits : {A B X Y : Type 0} → (A → ViewValue X) → (B → ViewValue Y) → ℕ → ℕ
+    → Option A → Option B → ℕ
 either_child_bits ta tb w d a b = bit_or (side_child_bits ta w d a) (side_child_bits tb w d b)
 
 -- What contracts see of a union.
-abbrev pub union_told : {A B X Y : Type 0} → ℕ → (A → ViewValue X) → (B → ViewValue Y) → Net → Option A → Option B → ViewValue (UnionItem X Y)
+abbrev pub union_told : {A B X Y : Type 0} → ℕ → (A → ViewValue X) → (B → ViewValue Y) → Net → Option A → Option B
+    → ViewValue (UnionItem X Y)
 union_told w ta tb place a b = record {
   place = place;
   data_bits = either_data_bits ta tb (depth_at place.len) a b;
@@ -47,7 +51,8 @@ pub record SideTook {V T Y : Type 0} (valid : V → Type 0) (tell : V → ViewVa
     Y) (w : ℕ) (place : Net) (bit : ℕ) (old new : Option V) (found : Option T) : Type 0 where
   pub inside : IsInnerSide valid tell w place new
   pub has : FindsItem tell item old (data_net w place bit) found
-  pub at : (n : Net) (y : Y) → SideHasItem tell new n y ↔ (SideHasItem tell old n y × (same_net (data_net w place bit) n ≡ false))
+  pub at : (n : Net) (y : Y) → SideHasItem tell new n y ↔
+      (SideHasItem tell old n y × (same_net (data_net w place bit) n ≡ false))
   pub child_bits : side_child_bits tell w (depth_at place.len) new ≡ side_child_bits tell w (depth_at place.len) old
   pub frugal : IsTrue (side_frugal tell old) → IsTrue (side_frugal tell new)
 

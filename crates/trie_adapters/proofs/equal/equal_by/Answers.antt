@@ -14,7 +14,10 @@ pairs-init g c =
       right.usable,
       (λ n x h. (left.whole n x).0 h),
       (λ n x h. (right.whole n x).0 h),
-      (same_equal _ _ _ _ _ (λ n x. ((left.whole n x).1, (left.whole n x).0)) (λ n x. ((right.whole n x).1, (right.whole n x).0)), same_equal _ _ _ _ _ left.whole right.whole),
+      (
+        same_equal _ _ _ _ _ (λ n x. ((left.whole n x).1, (left.whole n x).0)) (λ n x. ((right.whole n x).1, (right.whole n x).0)),
+        same_equal _ _ _ _ _ left.whole right.whole,
+      ),
     )
 
 pub returns-in_default-next : goal.returns-in_default-next
@@ -68,7 +71,8 @@ pairs-preserved g c =
     let old' = c.pairs.right_walk.levels.items in
     let pass = subst (λ b. goal.F-post g c.args.accepts c.in_ok-prefix.item c.in_ok-other_prefix.other_item b) c.if-not-accepts.false c.accepts.ensures in
     let next = subst (λ q. Gives w (λ l. rest w (g.R.TrieView.told l.view) l.spot) old' c.next-in-Some.new.self.levels.items q y) (sym same) given'.0 in
-    let more = equal_more w _ _ (Accepts g.L.TrieView.item g.R.TrieView.item (goal.F-post g c.args.accepts)) old c.next.new.self.levels.items old' c.next-in-Some.new.self.levels.items n x y
+    let more = equal_more w _ _ (Accepts g.L.TrieView.item g.R.TrieView.item (goal.F-post g c.args.accepts)) old c.next.new.self.levels.items old'
+    c.next-in-Some.new.self.levels.items n x y
     (one_item w (g.L.TrieView.told c.args.left) _ ((g.met.L.TrieView c.lifetimes (search rules)).laws c.args.left c.requires.left) c.pairs.invariant.2)
     (one_item w (g.R.TrieView.told c.args.right) _ ((g.met.R.TrieView c.lifetimes (search rules)).laws c.args.right c.requires.right) c.pairs.invariant.3)
     given.0 next (c.in_ok-prefix.item, (c.in_ok-other_prefix.other_item, refl, refl, pass)) in (

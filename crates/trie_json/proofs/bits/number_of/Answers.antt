@@ -11,7 +11,8 @@ five_is : (g : Over) (c : goal.After-five_bits-five g) → c.five_bits-five.resu
 five_is g c = c.five_bits-five.ensures ∙ ap (λ w. five_bits w c.fives.depth (g.W.KeyBits.number c.args.key)) (sym c.bits-width.ensures)
 
 sum_fits : (g : Over) (c : goal.After-five_bits-five g)
-    → c.fives.number * (1 * 2 ^ c.piece_len-count.result % 340282366920938463463374607431768211456) + c.five_bits-five.result / 2 ^ (5 - c.piece_len-count.result) < 2 ^ 128
+    → c.fives.number * (1 * 2 ^ c.piece_len-count.result % 340282366920938463463374607431768211456)
+    + c.five_bits-five.result / 2 ^ (5 - c.piece_len-count.result) < 2 ^ 128
 sum_fits g c =
     fives_fit c.bits-width.result c.fives.depth c.piece_len-count.result (g.W.KeyBits.number c.args.key) c.fives.number c.five_bits-five.result
     c.piece_len-count.ensures.longest (fits_width g c) (five_is g c) c.fives.invariant.1 (subst (λ w. w ≤ 128) (sym c.bits-width.ensures) g.W.KeyBits.width_law)

@@ -18,7 +18,8 @@ returns-in_default-clause-other c n e =
     c.in_default.ensures.other digit.0 digit.1 digit.2
 
 pub overflow_mul-number : goal.overflow_mul-number
-overflow_mul-number c = let small = read_small c.digits.byte-index c.digits.number (length c.args.text.now) c.if-text-ne32.false c.digits-test.true c.digits.invariant.1 in omega (arith, small)
+overflow_mul-number c = let small = read_small c.digits.byte-index c.digits.number (length c.args.text.now) c.if-text-ne32.false c.digits-test.true
+    c.digits.invariant.1 in omega (arith, small)
 
 pub overflow_add-number : goal.overflow_add-number
 overflow_add-number c =

@@ -12,7 +12,8 @@ write_entry-requires g c =
     let first = c.in-Some.ensures.list so.left so.list in
     let next = rw c.in_ok-prefix.was at first in
     let n = g.P.PlainPrefix.net c.in_ok-prefix.prefix in
-    (c.in_order.ensures.nets n c.in_ok-prefix.item.now (next_within w (entry_data w g.T.JsonItem.written) _ _ c.args.map.now next.0 _ n c.in_ok-prefix.item.now so next.1)).len_fits
+    (c.in_order.ensures.nets n c.in_ok-prefix.item.now (next_within w (entry_data w g.T.JsonItem.written) _ _ c.args.map.now next.0 _ n
+    c.in_ok-prefix.item.now so next.1)).len_fits
 
 pub entries-preserved : goal.entries-preserved
 entries-preserved g c =

@@ -7,7 +7,8 @@ use Rattle.trie_model.specs.Views.{depth_at, child_toward}
 use Rattle.trie_model.proofs.Places.{elim-false, depth_below}
 use Rattle.trie_model.proofs.Places.{place_is}
 use Rattle.trie_model.proofs.LongestLaws.{high_bit_of}
-use Rattle.view_model.proofs.CoverSearchLaws.{clear_of, finding_child, finding_none, cover_found_none, cover_found_short, cover_found_long, cover_found_whole, cover_found_here, cover_in_node}
+use Rattle.view_model.proofs.CoverSearchLaws.{clear_of, finding_child, finding_none, cover_found_none, cover_found_short}
+use Rattle.view_model.proofs.CoverSearchLaws.{cover_found_long, cover_found_whole, cover_found_here, cover_in_node}
 use Rattle.trie_sets.proofs.find.find_cover.Goals as goal
 
 zero_of : (n : ℕ) → n ≡ 0 → n ≡ 0

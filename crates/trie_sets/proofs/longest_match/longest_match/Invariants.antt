@@ -10,7 +10,8 @@ invariant-loop-depth g l = record {
   depth : l.depth ≡ depth_at (g.V.TrieView.told l.view).place.len;
   low : l.depth ≤ l.len;
   start : depth_at (g.V.TrieView.told l.fn.view).place.len ≤ l.depth;
-  matching : Matching g.V.P.Number.KeyBits.width l.depth (net_of (g.V.P.Number.KeyBits.number l.key) l.len) (g.V.TrieView.told l.fn.view) (g.V.TrieView.told l.view);
+  matching : Matching g.V.P.Number.KeyBits.width l.depth (net_of (g.V.P.Number.KeyBits.number l.key) l.len) (g.V.TrieView.told l.fn.view)
+      (g.V.TrieView.told l.view);
   longest : Longest g.V.P.Number.KeyBits.width (InNode g.V.TrieView.told (Some l.fn.view) l.depth) None (net_of (g.V.P.Number.KeyBits.number l.key) l.len)
       (pair_value g.V.P.PlainPrefix.net g.V.TrieView.item l.found);
   plain : HasNoHostBits g.V.P.PlainPrefix.net g.V.P.PlainPrefix.raw l.found;

@@ -22,7 +22,8 @@ returns-then-depth-clause-split g c = λ place d ok.
     let w : ℕ = g.V.P.Number.KeyBits.width in
     let side = subst (λ o. IsAlignedSide g.V.TrieView.valid g.V.TrieView.told w place o) c.in-Some.is ok in
     subst (λ o. SideSplit g.V.TrieView.valid g.V.TrieView.told w place c.args.bit o (Some c.in_ok-child.child) (Some c.get_child.new.self)) (sym c.in-Some.is)
-    (split_here w c.args.bit g.V.TrieView.valid g.V.TrieView.told (g.met.V.TrieView c.lifetimes (search rules)).laws place c.in-Some.view c.in_ok-child.child c.get_child.new.self
+    (split_here w c.args.bit g.V.TrieView.valid g.V.TrieView.told (g.met.V.TrieView c.lifetimes (search rules)).laws place c.in-Some.view
+    c.in_ok-child.child c.get_child.new.self
     c.in_ok-child.ensures.child.0 c.in_ok-child.ensures.usable side.1 (sym c.depth.ensures ∙ c.if-depth.true ∙ sym d) c.in_ok-child.ensures.child.1
     c.in_ok-child.ensures.rest)
 

@@ -8,4 +8,11 @@ pub returns : goal.returns
 returns g c =
     let left = g.met.V.TrieView c.lifetimes (search rules) in
     let right = g.met.R.TrieView c.lifetimes (search rules) in
-    if_ok_map c.equal_by.result (λ same is. ((λ t. (is.0 t).0), (λ keys. is.1 (keys, (λ n x y h k. all_pass g.V.TrieView.item g.R.TrieView.item (λ s t b. IsTrue b) left.onto right.onto (λ s t. refl) x y))))) c.equal_by.ensures
+    if_ok_map c.equal_by.result (λ same is. (
+      (λ t. (is.0 t).0),
+      (λ keys. is.1 (
+        keys,
+        (λ n x y h k. all_pass g.V.TrieView.item g.R.TrieView.item (λ s t b. IsTrue b) left.onto right.onto
+            (λ s t. refl) x y),
+      )),
+    )) c.equal_by.ensures

@@ -19,7 +19,8 @@ returns-clause-usable g c =
       c.requires.usable.1,
       c.requires.usable.2,
       keeps_others g.V.P.Number.KeyBits.width bits _ c.args.self.now.kept c.take.new.self (g.V.TrieView.told c.args.self.now.view) c.args.bit keeps fit
-          (cleared c.args.bit bits (omega (arith, small))) (λ b ne. ap (λ zs. slice_get zs b) c.take.ensures.left ∙ set_other c.args.self.now.kept c.args.bit b None ne),
+          (cleared c.args.bit bits (omega (arith, small))) (λ b ne. ap (λ zs. slice_get zs b) c.take.ensures.left
+          ∙ set_other c.args.self.now.kept c.args.bit b None ne),
     )
 
 pub returns-clause-rest : goal.returns-clause-rest
@@ -28,7 +29,9 @@ returns-clause-rest g c =
     let bits = c.args.self.now.data_bitmap in
     let small = bit_below 31 bits c.args.bit keeps.fit c.requires.set in
     let fit : bits < 2 ^ 32 = (let lt = keeps.fit in omega (arith, lt)) in
-    took_kept g.V.TrieView.item (AcceptsPair g.V.P.PlainPrefix.net g.V.P.PlainPrefix.raw g.V.TrieView.item (goal.F-post g c.args.self.now.by)) g.V.P.Number.KeyBits.width bits _
+    took_kept g.V.TrieView.item (AcceptsPair g.V.P.PlainPrefix.net g.V.P.PlainPrefix.raw g.V.TrieView.item (goal.F-post g c.args.self.now.by))
+    g.V.P.Number.KeyBits.width bits _
     c.args.self.now.kept c.take.new.self (g.V.TrieView.told c.args.self.now.view) c.args.bit
     ((g.met.V.TrieView c.lifetimes (search rules)).laws c.args.self.now.view c.requires.usable.0) keeps fit c.requires.set
-    (cleared c.args.bit bits (omega (arith, small))) (λ b ne. ap (λ zs. slice_get zs b) c.take.ensures.left ∙ set_other c.args.self.now.kept c.args.bit b None ne)
+    (cleared c.args.bit bits (omega (arith, small))) (λ b ne. ap (λ zs. slice_get zs b) c.take.ensures.left
+    ∙ set_other c.args.self.now.kept c.args.bit b None ne)

@@ -15,7 +15,8 @@ returns-clause-usable g c =
     let laws = (g.met.V.TrieView c.lifetimes (search rules)).laws in
     let ok = laws c.args.self.now.view c.requires.usable.0 in
     let keeps = c.requires.usable.3 in
-    let mask = subst (λ d. (b : ℕ) → b < 31 → d + level_of b ≤ w → bit_at c.data_cover_mask.result b ≡ cond (covers w (prefix_net w to.bits to.len) (net_of_bit w d to.bits b)) 1 0)
+    let mask = subst (λ d. (b : ℕ) → b < 31 → d + level_of b ≤ w
+    → bit_at c.data_cover_mask.result b ≡ cond (covers w (prefix_net w to.bits to.len) (net_of_bit w d to.bits b)) 1 0)
     c.depth.ensures c.data_cover_mask.ensures.mask in
     let narrow = bits_moved w c.args.self.now.data_bitmap c.data_cover_mask.result t to ok c.requires.place keeps.fit keeps.short mask in (
       c.reposition.ensures.usable,
@@ -32,8 +33,10 @@ returns-clause-moved g c =
     let to = net_of (g.V.P.Number.KeyBits.number c.args.key) c.args.prefix_len in
     let ok = (g.met.V.TrieView c.lifetimes (search rules)).laws c.args.self.now.view c.requires.usable.0 in
     let keeps = c.requires.usable.3 in
-    let mask = subst (λ d. (b : ℕ) → b < 31 → d + level_of b ≤ w → bit_at c.data_cover_mask.result b ≡ cond (covers w (prefix_net w to.bits to.len) (net_of_bit w d to.bits b)) 1 0)
+    let mask = subst (λ d. (b : ℕ) → b < 31 → d + level_of b ≤ w
+    → bit_at c.data_cover_mask.result b ≡ cond (covers w (prefix_net w to.bits to.len) (net_of_bit w d to.bits b)) 1 0)
     c.depth.ensures c.data_cover_mask.ensures.mask in
     let narrow = bits_moved w c.args.self.now.data_bitmap c.data_cover_mask.result t to ok c.requires.place keeps.fit keeps.short mask in
-    filtered_moved g.V.TrieView.item (AcceptsPair g.V.P.PlainPrefix.net g.V.P.PlainPrefix.raw g.V.TrieView.item (goal.F-post g c.args.self.now.by)) w c.args.self.now.data_bitmap _
+    filtered_moved g.V.TrieView.item (AcceptsPair g.V.P.PlainPrefix.net g.V.P.PlainPrefix.raw g.V.TrieView.item (goal.F-post g c.args.self.now.by)) w
+    c.args.self.now.data_bitmap _
     c.args.self.now.kept t (g.V.TrieView.told c.reposition.new.self) to ok c.requires.place c.reposition.ensures.moved narrow

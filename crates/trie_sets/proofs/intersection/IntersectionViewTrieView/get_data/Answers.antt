@@ -45,4 +45,5 @@ returns-clause-usable g c = (
 )
 
 pub returns-clause-rest : goal.returns-clause-rest
-returns-clause-rest g c = intersection_took g.L.P.Number.KeyBits.width c.args.bit _ _ _ _ c.requires.usable.2 c.in_ok-left.ensures.rest c.in_ok-right.ensures.rest
+returns-clause-rest g c =
+    intersection_took g.L.P.Number.KeyBits.width c.args.bit _ _ _ _ c.requires.usable.2 c.in_ok-left.ensures.rest c.in_ok-right.ensures.rest
