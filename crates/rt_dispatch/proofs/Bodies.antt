@@ -20,6 +20,7 @@ use Rattle.rt_neighbour.specs.Neighbour as Neighbour
 use Rattle.rt_neighbour_table.specs.NeighbourTable as NeighbourTable
 use Rattle.rt_wire.specs.Nsid as Nsid
 use Rattle.rt_wire.specs.Prefix as Prefix
+use Rattle.rt_stats.specs.Stats as Stats
 use Rattle.rt_other.specs.LinkLaws as LinkLaws
 use Rattle.rt_other.specs.AddressLaws as AddressLaws
 use Rattle.rt_other.specs.RouteLaws as RouteLaws
@@ -28,6 +29,7 @@ use Rattle.rt_other.proofs.Forms as Forms
 use Rattle.rt_neighbour.proofs.Forms as NeighbourForms
 use Rattle.rt_neighbour_table.proofs.Forms as NeighbourTableForms
 use Rattle.rt_wire.proofs.Forms as WireForms
+use Rattle.rt_stats.proofs.Forms as StatsForms
 use Rattle.rt_dispatch.specs.Dispatch.{link_request, address_request, route_request}
 
 -- ---- written and read
@@ -75,6 +77,10 @@ nsid-again m fit back = messages-again WireForms.nsid_form WireForms.nsid-laws m
 -- A message on prefixes that reads back does so from its bytes.
 pub prefix-again : Prefix.MessagesReadBack
 prefix-again m fit back = messages-again WireForms.prefix_form WireForms.prefix-laws m fit back.0 back.1
+
+-- A message on statistics that reads back does so from its bytes.
+pub stats-again : Stats.MessagesReadBack
+stats-again m fit back = messages-again StatsForms.stats_form StatsForms.stats-laws m fit back.0 back.1
 
 longer : (n k : ℕ) → k < n → (n == k) ≡ false
 longer n k less = ne_eqb n k (λ same. omega (arith, same, less))
@@ -146,6 +152,10 @@ nsid-read bytes m are is = read-parts WireForms.nsid_form WireForms.nsid-laws by
 -- A message on prefixes that was read from bytes reads back.
 pub prefix-read : (bytes : List ℕ) (m : Prefix.PrefixMessage) → AreBytes bytes → Prefix.message_at bytes ≡ Ok m → Prefix.ReadsBack m
 prefix-read bytes m are is = read-parts WireForms.prefix_form WireForms.prefix-laws bytes m are is
+
+-- A message on statistics that was read from bytes reads back.
+pub stats-read : (bytes : List ℕ) (m : Stats.StatsMessage) → AreBytes bytes → Stats.message_at bytes ≡ Ok m → Stats.ReadsBack m
+stats-read bytes m are is = read-parts StatsForms.stats_form StatsForms.stats-laws bytes m are is
 
 -- A short form or a whole message.
 either : {X : Type 0} (b : Bool) (short x : X) (whole : Result X DecodeError) (Back : X → Type 0) → Back short → (whole ≡ Ok x → Back x)

@@ -17,6 +17,7 @@ use Rattle.rt_neighbour.specs.Neighbour as Neighbour
 use Rattle.rt_neighbour_table.specs.NeighbourTable as NeighbourTable
 use Rattle.rt_wire.specs.Nsid as Nsid
 use Rattle.rt_wire.specs.Prefix as Prefix
+use Rattle.rt_stats.specs.Stats as Stats
 use Rattle.rt_dispatch.specs.declared.message.RouteNetlinkMessage.{RouteNetlinkMessage}
 use Rattle.rt_dispatch.specs.declared.message.RouteNetlinkMessage.TheVariants as variant
 use Rattle.rt_dispatch.specs.Dispatch.{body, text, kind, fits, reads, link_request, address_request, route_request, ReadsBack, MessagesReadBack, ReadMessagesReadBack}
@@ -71,6 +72,8 @@ again (variant.GetAddrLabel m) fit back = wrapped (λ x. variant.GetAddrLabel x)
 again (variant.NewNsId m) fit back = wrapped (λ x. variant.NewNsId x) _ m (Bodies.nsid-again m fit back)
 again (variant.DelNsId m) fit back = wrapped (λ x. variant.DelNsId x) _ m (Bodies.nsid-again m fit back)
 again (variant.GetNsId m) fit back = wrapped (λ x. variant.GetNsId x) _ m (Bodies.nsid-again m fit back)
+again (variant.NewStats m) fit back = wrapped (λ x. variant.NewStats x) _ m (Bodies.stats-again m fit back)
+again (variant.GetStats m) fit back = wrapped (λ x. variant.GetStats x) _ m (Bodies.stats-again m fit back)
 again (variant.NewTrafficChain m) fit back = wrapped (λ x. variant.NewTrafficChain x) _ m (Bodies.tc-again m fit back)
 again (variant.DelTrafficChain m) fit back = wrapped (λ x. variant.DelTrafficChain x) _ m (Bodies.tc-again m fit back)
 again (variant.GetTrafficChain m) fit back = wrapped (λ x. variant.GetTrafficChain x) _ m (Bodies.tc-again m fit back)
@@ -117,6 +120,7 @@ read-parts k bytes m are =
     let neighbour_table = λ (x : NeighbourTable.NeighbourTableMessage). Bodies.neighbour_table-read bytes x are in
     let nsid = λ (x : Nsid.NsidMessage). Bodies.nsid-read bytes x are in
     let prefix = λ (x : Prefix.PrefixMessage). Bodies.prefix-read bytes x are in
+    let stats = λ (x : Stats.StatsMessage). Bodies.stats-read bytes x are in
     step k m (Link.message_at bytes) (λ x. variant.NewLink x) 16 _ (λ x is. (refl, link x is))
     (step k m (Link.message_at bytes) (λ x. variant.DelLink x) 17 _ (λ x is. (refl, link x is))
     (step k m (link_request bytes) (λ x. variant.GetLink x) 18 _ (λ x is. (refl, Bodies.link-request-read bytes x are is))
@@ -155,10 +159,12 @@ read-parts k bytes m are =
     (step k m (Nsid.message_at bytes) (λ x. variant.NewNsId x) 88 _ (λ x is. (refl, nsid x is))
     (step k m (Nsid.message_at bytes) (λ x. variant.DelNsId x) 89 _ (λ x is. (refl, nsid x is))
     (step k m (Nsid.message_at bytes) (λ x. variant.GetNsId x) 90 _ (λ x is. (refl, nsid x is))
+    (step k m (Stats.message_at bytes) (λ x. variant.NewStats x) 92 _ (λ x is. (refl, stats x is))
+    (step k m (Stats.message_at bytes) (λ x. variant.GetStats x) 94 _ (λ x is. (refl, stats x is))
     (step k m (Tc.message_at bytes) (λ x. variant.NewTrafficChain x) 100 _ (λ x is. (refl, tc x is))
     (step k m (Tc.message_at bytes) (λ x. variant.DelTrafficChain x) 101 _ (λ x is. (refl, tc x is))
     (step k m (Tc.message_at bytes) (λ x. variant.GetTrafficChain x) 102 _ (λ x is. (refl, tc x is))
-    (none _)))))))))))))))))))))))))))))))))))))))))
+    (none _)))))))))))))))))))))))))))))))))))))))))))
 
 -- Each message that was read from bytes reads back.
 pub read-again : ReadMessagesReadBack

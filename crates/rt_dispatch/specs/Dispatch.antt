@@ -18,6 +18,7 @@ use Rattle.rt_neighbour.specs.Neighbour as Neighbour
 use Rattle.rt_neighbour_table.specs.NeighbourTable as NeighbourTable
 use Rattle.rt_wire.specs.Nsid as Nsid
 use Rattle.rt_wire.specs.Prefix as Prefix
+use Rattle.rt_stats.specs.Stats as Stats
 use Rattle.rt_dispatch.specs.declared.message.RouteNetlinkMessage.{RouteNetlinkMessage}
 use Rattle.rt_dispatch.specs.declared.message.RouteNetlinkMessage.TheVariants as variant
 
@@ -65,6 +66,8 @@ kind (variant.GetAddrLabel m) = 74
 kind (variant.NewNsId m) = 88
 kind (variant.DelNsId m) = 89
 kind (variant.GetNsId m) = 90
+kind (variant.NewStats m) = 92
+kind (variant.GetStats m) = 94
 kind (variant.NewTrafficChain m) = 100
 kind (variant.DelTrafficChain m) = 101
 kind (variant.GetTrafficChain m) = 102
@@ -84,6 +87,7 @@ pub data Body : Type 0 where
   OfNeighbourTable : NeighbourTable.NeighbourTableMessage → Body
   OfNsid : Nsid.NsidMessage → Body
   OfPrefix : Prefix.PrefixMessage → Body
+  OfStats : Stats.StatsMessage → Body
 
 -- What a variant holds.
 unfoldable pub body : RouteNetlinkMessage → Body
@@ -127,6 +131,8 @@ body (variant.GetAddrLabel m) = OfAddrLabel m
 body (variant.NewNsId m) = OfNsid m
 body (variant.DelNsId m) = OfNsid m
 body (variant.GetNsId m) = OfNsid m
+body (variant.NewStats m) = OfStats m
+body (variant.GetStats m) = OfStats m
 body (variant.NewTrafficChain m) = OfTc m
 body (variant.DelTrafficChain m) = OfTc m
 body (variant.GetTrafficChain m) = OfTc m
@@ -144,6 +150,7 @@ body_text (OfNeighbour m) = Neighbour.text m
 body_text (OfNeighbourTable m) = NeighbourTable.text m
 body_text (OfNsid m) = Nsid.text m
 body_text (OfPrefix m) = Prefix.text m
+body_text (OfStats m) = Stats.text m
 
 -- Whether each attribute of what a variant holds fits, and it a frame.
 abbrev pub body_fits : Body → Bool
@@ -158,6 +165,7 @@ body_fits (OfNeighbour m) = Neighbour.fits m
 body_fits (OfNeighbourTable m) = NeighbourTable.fits m
 body_fits (OfNsid m) = Nsid.fits m
 body_fits (OfPrefix m) = Prefix.fits m
+body_fits (OfStats m) = Stats.fits m
 
 -- What a variant holds reads back: the numbers of its header fit their fields, its family and its attributes read back.
 abbrev pub BodyReadsBack : Body → Type 0
@@ -172,6 +180,7 @@ BodyReadsBack (OfNeighbour m) = Neighbour.ReadsBack m
 BodyReadsBack (OfNeighbourTable m) = NeighbourTable.ReadsBack m
 BodyReadsBack (OfNsid m) = Nsid.ReadsBack m
 BodyReadsBack (OfPrefix m) = Prefix.ReadsBack m
+BodyReadsBack (OfStats m) = Stats.ReadsBack m
 
 -- The bytes of a message.
 unfoldable pub text : RouteNetlinkMessage → List ℕ
@@ -245,6 +254,8 @@ reads kind bytes =
     else if kind == 88 then (Nsid.message_at bytes >>= λ m. Ok (variant.NewNsId m))
     else if kind == 89 then (Nsid.message_at bytes >>= λ m. Ok (variant.DelNsId m))
     else if kind == 90 then (Nsid.message_at bytes >>= λ m. Ok (variant.GetNsId m))
+    else if kind == 92 then (Stats.message_at bytes >>= λ m. Ok (variant.NewStats m))
+    else if kind == 94 then (Stats.message_at bytes >>= λ m. Ok (variant.GetStats m))
     else if kind == 100 then (Tc.message_at bytes >>= λ m. Ok (variant.NewTrafficChain m))
     else if kind == 101 then (Tc.message_at bytes >>= λ m. Ok (variant.DelTrafficChain m))
     else if kind == 102 then (Tc.message_at bytes >>= λ m. Ok (variant.GetTrafficChain m))
@@ -331,10 +342,12 @@ HasVariantOf k m =
     (choose (k == 88) (IsOf (λ x. variant.NewNsId x) m)
     (choose (k == 89) (IsOf (λ x. variant.DelNsId x) m)
     (choose (k == 90) (IsOf (λ x. variant.GetNsId x) m)
+    (choose (k == 92) (IsOf (λ x. variant.NewStats x) m)
+    (choose (k == 94) (IsOf (λ x. variant.GetStats x) m)
     (choose (k == 100) (IsOf (λ x. variant.NewTrafficChain x) m)
     (choose (k == 101) (IsOf (λ x. variant.DelTrafficChain x) m)
     (choose (k == 102) (IsOf (λ x. variant.GetTrafficChain x) m)
-    ⊥))))))))))))))))))))))))))))))))))))))))))
+    ⊥))))))))))))))))))))))))))))))))))))))))))))
 
 -- The type of each message tells its variant.
 abbrev pub TypesTellVariants : Type 0

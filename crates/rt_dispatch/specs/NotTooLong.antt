@@ -15,7 +15,8 @@ use Rattle.rt_neighbour.specs.Neighbour as Neighbour
 use Rattle.rt_neighbour_table.specs.NeighbourTable as NeighbourTable
 use Rattle.rt_wire.specs.Nsid as Nsid
 use Rattle.rt_wire.specs.Prefix as Prefix
-use Rattle.rt_dispatch.specs.Dispatch.{Body, OfLink, OfAddress, OfRoute, OfRule, OfTc, OfTcAction, OfAddrLabel, OfNeighbour, OfNeighbourTable, OfNsid, OfPrefix, body, body_text, body_fits, text, fits}
+use Rattle.rt_stats.specs.Stats as Stats
+use Rattle.rt_dispatch.specs.Dispatch.{Body, OfLink, OfAddress, OfRoute, OfRule, OfTc, OfTcAction, OfAddrLabel, OfNeighbour, OfNeighbourTable, OfNsid, OfPrefix, OfStats, body, body_text, body_fits, text, fits}
 
 short : (each : Bool) (n : ℕ) → (each && nat_le (16 + n) 4_294_967_295) ≡ true → n + 16 < 2 ^ 32
 short each n fit = omega (arith, leb-true _ _ (and_true each (nat_le (16 + n) 4_294_967_295) fit).1)
@@ -32,6 +33,7 @@ body-short (OfNeighbour m) fit = short _ (length (Neighbour.text m)) fit
 body-short (OfNeighbourTable m) fit = short _ (length (NeighbourTable.text m)) fit
 body-short (OfNsid m) fit = short _ (length (Nsid.text m)) fit
 body-short (OfPrefix m) fit = short _ (length (Prefix.text m)) fit
+body-short (OfStats m) fit = short _ (length (Stats.text m)) fit
 
 -- A message that fits and its frame's header are shorter than 2^32 bytes.
 pub not-too-long : (m : RouteNetlinkMessage) → fits m ≡ true → length (text m) + 16 < 2 ^ 32

@@ -265,6 +265,20 @@ impl RouteNetlinkMessage {
         self.message_type() == RTM_GETNSID
     }
 
+    /// Whether this is a `NewStats`.
+    pub fn is_new_stats(&self) -> bool
+        ensures { result ≡ (kind self.now == 92) }
+    {
+        self.message_type() == RTM_NEWSTATS
+    }
+
+    /// Whether this is a `GetStats`.
+    pub fn is_get_stats(&self) -> bool
+        ensures { result ≡ (kind self.now == 94) }
+    {
+        self.message_type() == RTM_GETSTATS
+    }
+
     /// Whether this is a `NewTrafficChain`.
     pub fn is_new_chain(&self) -> bool
         ensures { result ≡ (kind self.now == 100) }
