@@ -98,7 +98,8 @@ impl Runner {
         ensures unshut { OnOk result (self.old.connection.closed ≡ false) }
         ensures step { OnOk result (Brings self.old.settings entry
             self.old.connection self.old.observers.ledger self.new.connection self.new.observers.ledger) }
-        ensures shown { OnOk result (Shows entry self.old.connection self.old.observers.mirror self.new.observers.mirror) }
+        ensures shown { OnOk result
+            (Shows entry self.old.connection self.old.observers.mirror self.new.observers.mirror) }
         ensures cause { IfErr result (RefusedBy self.old entry) }
     {
         if self.connection.should_shut_down() {

@@ -103,7 +103,10 @@ module _ (to : Net → Network) where
       ∙ ap (λ b. cond b (option_or (option_map hop_value (hop_under x.1 p)) (cond (not b) (get rest q) None)) (cond (not b) (get rest q) None)) (same n x.0)
       ∙ by (same_net n x.0) (get_lists same n p ps t)
     where
-      by : (b : Bool) → get (with_lists to ps t) (key_of (to n) p) ≡ here (value_at ps n) p (get t (key_of (to n) p)) → cond b (option_or (option_map hop_value (hop_under x.1 p)) (cond (not b) (get (with_lists to ps t) (key_of (to n) p)) None)) (cond (not b) (get (with_lists to ps t) (key_of (to n) p)) None)
+      by : (b : Bool) → get (with_lists to ps t) (key_of (to n) p) ≡ here (value_at ps n) p (get t (key_of (to n) p))
+          → cond b
+          (option_or (option_map hop_value (hop_under x.1 p)) (cond (not b) (get (with_lists to ps t) (key_of (to n) p)) None))
+          (cond (not b) (get (with_lists to ps t) (key_of (to n) p)) None)
           ≡ here (cond b (Some x.1) (value_at ps n)) p (get t (key_of (to n) p))
       by true rest = or_none (option_map hop_value (hop_under x.1 p))
       by false rest = rest

@@ -54,7 +54,8 @@ pub fn message_change(message: &RouteNetlinkMessage, table: u32) -> Option<Route
 
 // The change by which a route comes or goes.
 fn route_change(route: &RouteMessage, table: u32, comes: bool) -> Option<RouteChange>
-    ensures change { option_map change_value result ≡ model.route_change route.now.header route.now.attributes table (if comes then Some (next_hop route.now) else None) }
+    ensures change { option_map change_value result ≡ model.route_change route.now.header route.now.attributes table
+        (if comes then Some (next_hop route.now) else None) }
     ensures plain { IfSome result (λ c. IsPlain c.network) }
 {
     let header = &route.header;
@@ -170,7 +171,8 @@ fn number_of(octets: &[u8]) -> u128
 // The first bits of a number, and how many: none of a length above the width. The length 0 needs no number.
 fn leading<P: PlainPrefix>(length: u8, number: Option<P::Number>) -> Option<P>
     requires { IfSome number (λ n. P.Number.number n < 2 ^ P.Number.width) }
-    ensures leading { option_map (pair_of P.net) result ≡ model.leading P.Number.width length (option_map P.Number.number number) }
+    ensures leading { option_map (pair_of P.net) result ≡
+        model.leading P.Number.width length (option_map P.Number.number number) }
     ensures plain { IfSome result (IsPlainPrefix P.Number.width P.net P.raw) }
 {
     if length == 0 {

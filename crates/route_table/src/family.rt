@@ -62,7 +62,8 @@ pub(crate) fn best_in<'a, P: PlainPrefix, L>(
     steps: &mut Steps<L>,
 ) -> Option<(P, u32, Hop)>
     requires { (P.net address.now).len ≡ P.Number.width }
-    ensures best { IsBestIn P.Number.width routes.now blocked.now (P.net address.now) (option_map (route_in P.net) result) }
+    ensures best { IsBestIn P.Number.width routes.now blocked.now (P.net address.now)
+        (option_map (route_in P.net) result) }
     ensures plain { IfSome result (λ r. P.raw r.0 ≡ (P.net r.0).bits) }
     ensures most { steps.new ≤ steps.old + 2 * (P.Number.width / 5 + 1) }
     ensures least { min (steps.old + 2) (2 ^ 64 - 1) ≤ steps.new }

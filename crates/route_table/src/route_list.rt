@@ -52,7 +52,8 @@ impl RouteList {
 
     // Puts a route under a priority, in place of the one that is there.
     pub(crate) fn put(&mut self, priority: u32, hop: Hop) -> Result<(), NoMemory>
-        ensures put { OnOk result ((p : ℕ) → hop_under self.new p ≡ (if p == priority then Some hop else hop_under self.old p)) }
+        ensures put { OnOk result ((p : ℕ)
+            → hop_under self.new p ≡ (if p == priority then Some hop else hop_under self.old p)) }
         ensures unchanged { OnErr result (self.new ≡ self.old) }
     {
         if priority > self.priority {
@@ -70,7 +71,8 @@ impl RouteList {
     // Takes the route of a priority out. Where it is the only one, nothing changes, and the answer is true.
     pub(crate) fn remove(&mut self, priority: u32) -> bool
         ensures only { result ≡ true → (p : ℕ) → (p == priority) ≡ false → hop_under self.old p ≡ None }
-        ensures removed { result ≡ false → (p : ℕ) → hop_under self.new p ≡ (if p == priority then None else hop_under self.old p) }
+        ensures removed { result ≡ false → (p : ℕ)
+            → hop_under self.new p ≡ (if p == priority then None else hop_under self.old p) }
     {
         if priority != self.priority {
             self.rest.remove(&priority);
