@@ -1,12 +1,12 @@
 //! The lines of a transcript, whose bytes come in pieces.
-ghost use Rattle.std.specs.Prelude.{◌*◌, ◌≤◌, ◌<◌, ◌↔◌, [], IfNone, IfOk, IfSome, IsTrue, OnOk, List, ℕ, length};
+ghost use Rattle.std.specs.Prelude.{◌*◌, ◌≤◌, ◌<◌, ◌↔◌, ◌++◌, [], IfNone, IfOk, IfSome, IsTrue, OnOk, List, ℕ, length};
 ghost use Rattle.session_model.specs.Transcript.{IsRecord, longest_datagram};
 ghost use Rattle.transcript_lines.specs.Decoding.{IsCount};
 ghost use Rattle.transcript_lines.specs.OpenLine.{IsRecvLine};
 
 use crate::cut::cut_at;
 use crate::open_line::OpenLine;
-use crate::record::has_whole_frames;
+use crate::record::{has_whole_frames, read_record};
 use nl_core::{NetlinkDeserializable, NoMemory};
 use session_model::Record;
 use std::alloc::Global;
@@ -63,6 +63,29 @@ impl<T: NetlinkDeserializable + Drop> LineDecoder<T> {
         }
     }
 
+    // What a line is whose bytes are all at hand.
+    fn whole(alloc: Global, line: &[u8]) -> Result<Line, NoMemory>
+        ensures { IfOk result (IsLineOf (IsRecord T.reads) line.now) }
+    {
+        match read_record::<T>(alloc, line)? {
+            Some(record) => Ok(Line::Record(record)),
+            None => Ok(Line::Bad),
+        }
+    }
+
+    // Takes the last bytes of a line: what it is. A line that begins with them is read where they lie.
+    fn last(&mut self, piece: &[u8]) -> Result<Line, NoMemory>
+        ensures told { IfOk result (λ line. (taken : List ℕ) → Stands taken self.old →
+            IsLineOf (IsRecord T.reads) (taken ++ piece.now) line) }
+        ensures fresh { OnOk result (Stands [] self.new) }
+    {
+        if !self.line.is_begun() {
+            return Self::whole(self.line.alloc(), piece);
+        }
+        self.line.take(piece)?;
+        self.end()
+    }
+
     /// Takes the bytes up to and with the first newline, else all. A line is told exactly where a newline was taken:
     /// the record that the bytes since the line began spell, or `Bad` where they spell none; nothing is taken then.
     pub fn feed(&mut self, piece: &[u8]) -> Result<Fed, NoMemory>
@@ -76,8 +99,7 @@ impl<T: NetlinkDeserializable + Drop> LineDecoder<T> {
                 line: None,
             });
         };
-        self.line.take(front)?;
-        let line = self.end()?;
+        let line = self.last(front)?;
         Ok(Fed {
             took: front.len() + 1,
             line: Some(line),

@@ -1,5 +1,5 @@
 //! An unfinished line, decoded as its bytes come.
-ghost use Rattle.std.specs.Prelude.{◌≡◌, ◌*◌, ◌≤◌, ◌<◌, ◌↔◌, ◌∷◌, ◌++◌, [], IfOk, IsTrue, OnOk, List, ℕ, flat_map, length};
+ghost use Rattle.std.specs.Prelude.{◌≡◌, ◌*◌, ◌≤◌, ◌<◌, ◌↔◌, ◌∷◌, ◌++◌, [], false, IfOk, IsTrue, OnOk, List, ℕ, flat_map, length};
 ghost use Rattle.session_model.specs.Transcript.{longest_datagram};
 ghost use Rattle.transcript_lines.specs.Decoding.{AreWords, IsCount, spaced};
 ghost use Rattle.transcript_lines.specs.OpenLine.{FeedsTail, IsCutInWords, IsRecvLine, ReadsTail, kept_at, kept_in};
@@ -188,7 +188,8 @@ impl OpenLine {
 
     /// Whether bytes were taken.
     pub(crate) fn is_begun(&self) -> bool
-        ensures { (taken : List ℕ) → ReadsLine taken self.now → IsTrue result ↔ (0 < length taken) }
+        ensures begun { (taken : List ℕ) → ReadsLine taken self.now → IsTrue result ↔ (0 < length taken) }
+        ensures fresh { result ≡ false → ReadsLine [] self.now }
     {
         self.tail.is_some() || !self.head.is_empty()
     }

@@ -1,4 +1,4 @@
-use Rattle.std.proofs.Common.{◌++◌, refl}
+use Rattle.std.proofs.Common.{refl}
 use Rattle.transcript_lines.proofs.Cuts.{no_newline}
 use Rattle.transcript_lines.proofs.decoder.LineDecoder.feed.Goals as goal
 
@@ -12,6 +12,6 @@ returns-clause-line g c = record {
   cut = c.in-Some.ensures.1;
   first = no_newline c.in-Some.front.now c.in-Some.ensures.0;
   count = refl;
-  told = λ taken h. c.in_ok-line.ensures.told (taken ++ c.in-Some.front.now) (c.in_ok-take-2.ensures taken h);
+  told = c.in_ok-line.ensures.told;
   fresh = c.in_ok-line.ensures.fresh;
 }
