@@ -1,5 +1,5 @@
 -- How a word is spelled that is written.
-use Rattle.std.specs.Prelude.{◌≡◌, ℕ, Bool, true, false, List, ◌∷◌, ◌++◌, Option, Some, None}
+use Rattle.std.specs.Prelude.{◌≡◌, ℕ, Bool, true, false, List, ◌∷◌, ◌++◌, length, Option, Some, None}
 use Rattle.std.specs.Fmt.{decimal}
 use Rattle.session_model.specs.Lines.{hex_word}
 use Rattle.session_model.specs.Networks.{slash}
@@ -15,7 +15,7 @@ spelled (Number n) = decimal n
 spelled (Hex bytes) = hex_word bytes.now
 spelled (Prefix octets length) = hex_word octets.now ++ slash ∷ decimal length
 
--- These are the bytes of a payload that fits, and None where it doesn't.
-abbrev pub Tells : {M : Type 0} → (M → List ℕ) → (M → Bool) → NetlinkPayload M → Option (List ℕ) → Type 0
-Tells text fits p (Some bytes) = (payload_fits text fits p ≡ true) × (bytes ≡ payload_text text p)
-Tells text fits p None = payload_fits text fits p ≡ false
+-- This is how many bytes a payload has that fits, and None where it doesn't.
+abbrev pub Measures : {M : Type 0} → (M → List ℕ) → (M → Bool) → NetlinkPayload M → Option ℕ → Type 0
+Measures text fits p (Some len) = (payload_fits text fits p ≡ true) × (len ≡ length (payload_text text p))
+Measures text fits p None = payload_fits text fits p ≡ false

@@ -1,5 +1,6 @@
 //! Lower-case hex digits, and the bytes that pairs of them spell.
-ghost use Rattle.std.specs.Prelude.{◌≡◌, ◌*◌, length, max};
+ghost use Rattle.std.specs.Prelude.{◌≡◌, ◌*◌, ◌<◌, flat_map, length, max, take};
+ghost use Rattle.session_model.specs.Lines.{hex_byte, hex_digit};
 ghost use Rattle.transcript_lines.specs.Digits.{ArePairs, IsDigitValue};
 
 // What stands for a byte that is no digit: more than any digit's value.
@@ -40,4 +41,31 @@ pub(crate) fn decode_pairs(digits: &[u8], bytes: &mut [u8]) -> bool
         worst = greater(greater(worst, high), low);
     }
     worst < NO_DIGIT
+}
+
+// The digit of a value.
+fn digit(value: u8) -> u8
+    requires { value < 16 }
+    ensures { result ≡ hex_digit value }
+{
+    if value < 10 {
+        b'0' + value
+    } else {
+        b'a' - 10 + value
+    }
+}
+
+/// Writes the digits of the bytes at the front of a row over the whole row, from its end on, so that no byte is
+/// written over before it was read.
+pub(crate) fn spread_pairs(row: &mut [u8], count: usize)
+    requires { length row.old ≡ 2 * count }
+    ensures { row.new ≡ flat_map hex_byte (take count row.old) }
+{
+    let mut at = count;
+    while at > 0 {
+        at -= 1;
+        let byte = row[at];
+        row[2 * at + 1] = digit(byte % 16);
+        row[2 * at] = digit(byte / 16);
+    }
 }

@@ -1,9 +1,11 @@
 //! Words and lines, as they are written.
-ghost use Rattle.std.specs.Prelude.{◌≡◌, ◌∷◌, [], ◌++◌, ◌<◌, ◌+◌, OnOk, flat_map, length, map};
+ghost use Rattle.std.specs.Prelude.{◌≡◌, ◌∷◌, ◌++◌, ◌≤◌, OnOk, drop, flat_map, length, map, take};
+ghost use Rattle.std.specs.List.{join_with_byte};
 ghost use Rattle.std.specs.Fmt.{decimal};
-ghost use Rattle.session_model.specs.Lines.{hex_digit, hex_word, hex_byte, line, space};
+ghost use Rattle.session_model.specs.Lines.{hex_word, line, space};
 ghost use Rattle.transcript_lines.specs.Spelling.{spelled};
 
+use crate::digits::spread_pairs;
 use itoa::Buffer;
 use nl_core::NoMemory;
 
@@ -17,6 +19,12 @@ pub enum Word<'a> {
     Prefix { octets: &'a [u8], length: u8 },
 }
 
+// The most digits of a number.
+const LONGEST_NUMBER: usize = 20;
+
+// The most bytes of a network's slash and length.
+const LONGEST_LENGTH: usize = 4;
+
 // Adds a number in decimal.
 fn put_number(text: &mut Vec<u8>, number: u64) -> Result<(), NoMemory>
     ensures { OnOk result (text.new.items ≡ text.old.items ++ decimal number) }
@@ -26,30 +34,29 @@ fn put_number(text: &mut Vec<u8>, number: u64) -> Result<(), NoMemory>
     Ok(())
 }
 
-// The lower-case hex digit of a value.
-fn digit(value: u8) -> u8
-    requires { value < 16 }
-    ensures { result ≡ hex_digit value }
+/// Puts the hex of the bytes that a text ends with, from a place on, in their place; `-` where there are none.
+pub(crate) fn spell_from(text: &mut Vec<u8>, at: usize) -> Result<(), NoMemory>
+    requires { at ≤ length text.old.items }
+    ensures { OnOk result (text.new.items ≡ take at text.old.items ++ hex_word (drop at text.old.items)) }
 {
-    if value < 10 {
-        b'0' + value
-    } else {
-        b'a' - 10 + value
+    let end = text.len();
+    let count = end - at;
+    if count == 0 {
+        text.push(b'-')?;
+        return Ok(());
     }
+    text.resize(end + count, 0)?;
+    spread_pairs(&mut text.as_mut_slice()[at..], count);
+    Ok(())
 }
 
 // Adds bytes in hex, or `-` where there are none.
 fn put_hex(text: &mut Vec<u8>, bytes: &[u8]) -> Result<(), NoMemory>
     ensures { OnOk result (text.new.items ≡ text.old.items ++ hex_word bytes.now) }
 {
-    if bytes.is_empty() {
-        text.push(b'-')?;
-        return Ok(());
-    }
-    for byte in bytes {
-        text.extend_from_slice(&[digit(*byte / 16), digit(*byte % 16)])?;
-    }
-    Ok(())
+    let at = text.len();
+    text.extend_from_slice(bytes)?;
+    spell_from(text, at)
 }
 
 // Adds a word.
@@ -82,13 +89,52 @@ fn put_more(text: &mut Vec<u8>, words: &[Word<'_>]) -> Result<(), NoMemory>
     Ok(())
 }
 
+// How many bytes a word has at most.
+fn room_of(word: Word<'_>) -> usize {
+    match word {
+        Word::Plain(bytes) => bytes.len(),
+        Word::Number(_) => LONGEST_NUMBER,
+        Word::Hex(bytes) => bytes.len().saturating_mul(2).max(1),
+        Word::Prefix { octets, .. } => octets
+            .len()
+            .saturating_mul(2)
+            .saturating_add(LONGEST_LENGTH),
+    }
+}
+
+/// Makes room once for a line of these words and of so many bytes more.
+pub(crate) fn make_room(
+    text: &mut Vec<u8>,
+    first: &[u8],
+    more: &[Word<'_>],
+    others: usize,
+) -> Result<(), NoMemory>
+    ensures { text.new.items ≡ text.old.items }
+{
+    let mut room = first.len().saturating_add(others).saturating_add(1);
+    for word in more {
+        room = room.saturating_add(room_of(*word)).saturating_add(1);
+    }
+    text.reserve(room)?;
+    Ok(())
+}
+
+/// Adds words, separated by spaces.
+#[tactic(auto, using(crate::proofs::Joined::words_joined))]
+pub(crate) fn put_words(text: &mut Vec<u8>, first: &[u8], more: &[Word<'_>]) -> Result<(), NoMemory>
+    ensures { OnOk result (text.new.items ≡
+        text.old.items ++ join_with_byte space (first.now ∷ map spelled more.now)) }
+{
+    text.extend_from_slice(first)?;
+    put_more(text, more)
+}
+
 /// Adds a line of these words, separated by spaces.
-#[tactic(auto, using(crate::proofs::Joined::line_of_words))]
 pub fn put_line(text: &mut Vec<u8>, first: &[u8], more: &[Word<'_>]) -> Result<(), NoMemory>
     ensures { OnOk result (text.new.items ≡ text.old.items ++ line (first.now ∷ map spelled more.now)) }
 {
-    text.extend_from_slice(first)?;
-    put_more(text, more)?;
+    make_room(text, first, more, 0)?;
+    put_words(text, first, more)?;
     text.push(b'\n')?;
     Ok(())
 }
