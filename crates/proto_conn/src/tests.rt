@@ -1,5 +1,7 @@
-//! Connections over a tape, with raw messages of type 1000 and a peer at port 7: each public call
-//! once, and each call of the tape failing and stalling in turn.
+//! Connections over a tape, with raw messages of type 1000 and a peer at port 7: each public call once.
+
+mod faults;
+mod streams;
 
 use crate::*;
 use nl_core::{
@@ -35,8 +37,8 @@ fn frame(number: u8) -> [u8; 16] {
 }
 
 // A datagram from the peer waits.
-fn push(alloc: Global, link: &mut TapeLink, number: u8) -> Result<(), NoMemory> {
-    let bytes = Octets::from_vec(Vec::from_slice(alloc, &frame(number))?);
+fn push(alloc: Global, link: &mut TapeLink, bytes: &[u8]) -> Result<(), NoMemory> {
+    let bytes = Octets::from_vec(Vec::from_slice(alloc, bytes)?);
     if bytes.len() > 65_536 {
         return Ok(());
     }
@@ -97,8 +99,8 @@ fn sent_by_two(connection: &mut Tape) -> Result<[Option<u8>; 2], Fail> {
 
 // The peer sends messages with these numbers, and the connection reads them.
 fn receive_both(alloc: Global, connection: &mut Tape, first: u8, second: u8) -> Result<(), Fail> {
-    push(alloc, connection.socket_mut(), first)?;
-    push(alloc, connection.socket_mut(), second)?;
+    push(alloc, connection.socket_mut(), &frame(first))?;
+    push(alloc, connection.socket_mut(), &frame(second))?;
     poll(connection)?;
     Ok(())
 }
@@ -121,87 +123,6 @@ fn a_poll_sends_one_batch(rt: HostRuntime) -> Result<(), Fail> {
     Ok(())
 }
 
-// The number of the oldest message of a stream.
-fn next_number(connection: &mut Tape, stream: &mut ReplyStream) -> Polled<u32> {
-    match stream.poll_next(connection) {
-        Polled::Ready(message) => Polled::Ready(message.header.sequence_number),
-        Polled::Ended => Polled::Ended,
-        Polled::NotYet => Polled::NotYet,
-    }
-}
-
-// A connection with two requests of one message each, and their streams.
-fn asked_by_two(alloc: Global) -> Result<(Tape, ReplyStream, ReplyStream), Fail> {
-    let (mut connection, handle, _unsolicited) = opened(alloc, 0)?;
-    let other = handle.clone()?;
-    let first = handle.request(alloc, &mut connection, message(alloc, 99), PEER)?;
-    let second = other.request(alloc, &mut connection, message(alloc, 99), PEER)?;
-    Ok((connection, first, second))
-}
-
-// Two answers of a stream, and whether more of it may be read.
-fn answers(connection: &mut Tape, stream: &mut ReplyStream) -> ([Polled<u32>; 2], bool) {
-    let first = next_number(connection, stream);
-    let second = next_number(connection, stream);
-    ([first, second], connection.awaits(stream.id()))
-}
-
-#[test]
-fn streams_give_their_own_replies(rt: HostRuntime) -> Result<(), Fail> {
-    let alloc = rt.alloc();
-    let (mut connection, mut first, mut second) = asked_by_two(alloc)?;
-    let nothing = ([Polled::NotYet, Polled::NotYet], true);
-    assert_eq!(rt; answers(&mut connection, &mut first), nothing);
-    sent_by_two(&mut connection)?;
-    receive_both(alloc, &mut connection, 2, 1)?;
-    let one = ([Polled::Ready(1), Polled::Ended], false);
-    assert_eq!(rt; answers(&mut connection, &mut first), one);
-    let two = ([Polled::Ready(2), Polled::Ended], false);
-    assert_eq!(rt; answers(&mut connection, &mut second), two);
-    Ok(())
-}
-
-// A stream whose batch is sent is given up, and a message that awaits nothing is queued after it.
-fn give_up(
-    alloc: Global,
-    connection: &mut Tape,
-    handle: ConnectionHandle<RawMessage>,
-) -> Result<(), Fail> {
-    let batch = vec![in alloc; message(alloc, 99)]?;
-    let stream = handle.request_batch(connection, batch, PEER)?;
-    handle.notify(alloc, connection, message(alloc, 99), PEER)?;
-    poll(connection)?;
-    stream.give_up(connection);
-    Ok(())
-}
-
-// The stream of a batch of one message that is sent in the call that takes it.
-fn submit(alloc: Global, connection: &mut Tape) -> Result<ReplyStream, Fail> {
-    connection.poll_requests()?;
-    let marked = vec![in alloc; (message(alloc, 99), ReplyExpectation::Expected)]?;
-    Ok(connection.submit(alloc, marked, PEER)?)
-}
-
-// Whether the frame of a number was sent to the peer.
-fn was_sent(connection: &mut Tape, number: u8) -> bool {
-    match connection.socket_mut().take_sent() {
-        Some((bytes, to)) => bytes.as_slice() == frame(number).as_slice() && to == PEER,
-        None => false,
-    }
-}
-
-#[test]
-fn a_batch_is_sent_at_once(rt: HostRuntime) -> Result<(), Fail> {
-    let alloc = rt.alloc();
-    let (mut connection, _handle, _unsolicited) = opened(alloc, 0)?;
-    let mut stream = submit(alloc, &mut connection)?;
-    assert!(rt; was_sent(&mut connection, 1));
-    receive_both(alloc, &mut connection, 1, 2)?;
-    let one = ([Polled::Ready(1), Polled::Ended], false);
-    assert_eq!(rt; answers(&mut connection, &mut stream), one);
-    Ok(())
-}
-
 // How many messages were taken in up to the oldest unsolicited one.
 fn next_unsolicited(connection: &mut Tape, unsolicited: &mut Unsolicited) -> Polled<u64> {
     match unsolicited.poll_next(connection) {
@@ -211,52 +132,46 @@ fn next_unsolicited(connection: &mut Tape, unsolicited: &mut Unsolicited) -> Pol
     }
 }
 
-#[test]
-fn a_stream_is_given_up(rt: HostRuntime) -> Result<(), Fail> {
-    let alloc = rt.alloc();
-    let (mut connection, handle, mut unsolicited) = opened(alloc, 9)?;
-    give_up(alloc, &mut connection, handle)?;
-    receive_both(alloc, &mut connection, 10, 10)?;
-    assert_eq!(rt; next_stream(&mut connection), None);
-    assert_eq!(rt;
-        next_unsolicited(&mut connection, &mut unsolicited),
-        Polled::Ready(2)
-    );
-    assert_eq!(rt;
-        next_unsolicited(&mut connection, &mut unsolicited),
-        Polled::NotYet
-    );
-    Ok(())
-}
-
-// No requests are taken any more, and a request says so.
-fn close_requests(
-    alloc: Global,
-    connection: &mut Tape,
-    handle: ConnectionHandle<RawMessage>,
-) -> bool {
-    connection.set_forward_noop(true);
-    connection.set_forward_done(true);
-    connection.set_forward_ack(true);
-    connection.close_requests();
+// Whether a request is refused since the connection takes none.
+fn is_refused(alloc: Global, connection: &mut Tape, handle: ConnectionHandle<RawMessage>) -> bool {
     match handle.request(alloc, connection, message(alloc, 99), PEER) {
         Err(NetlinkProtoError::ConnectionClosed) => true,
         Err(_) | Ok(_) => false,
     }
 }
 
+// Whether a request is refused before the side of requests is closed, and after.
+fn close_requests(
+    alloc: Global,
+    connection: &mut Tape,
+    handle: ConnectionHandle<RawMessage>,
+) -> [bool; 2] {
+    let before = is_refused(alloc, connection, handle);
+    connection.close_requests();
+    [before, is_refused(alloc, connection, handle)]
+}
+
+// The answer of the side of unsolicited messages once it is closed, and that of a poll.
+fn close_unsolicited(
+    connection: &mut Tape,
+    unsolicited: &mut Unsolicited,
+) -> Result<(Polled<u64>, Polled<()>), Fail> {
+    connection.close_unsolicited();
+    let next = next_unsolicited(connection, unsolicited);
+    Ok((next, poll(connection)?))
+}
+
 #[test]
 fn both_sides_close(rt: HostRuntime) -> Result<(), Fail> {
     let alloc = rt.alloc();
     let (mut connection, handle, mut unsolicited) = opened(alloc, 0)?;
-    assert!(rt; close_requests(alloc, &mut connection, handle));
-    assert_eq!(rt; poll(&mut connection)?, Polled::NotYet);
-    connection.close_unsolicited();
     assert_eq!(rt;
-        next_unsolicited(&mut connection, &mut unsolicited),
-        Polled::Ended
+        close_requests(alloc, &mut connection, handle),
+        [false, true]
     );
-    assert_eq!(rt; poll(&mut connection)?, Polled::Ready(()));
+    assert_eq!(rt; poll(&mut connection)?, Polled::NotYet);
+    let closed = close_unsolicited(&mut connection, &mut unsolicited)?;
+    assert_eq!(rt; closed, (Polled::Ended, Polled::Ready(())));
     Ok(())
 }
 
@@ -284,7 +199,7 @@ fn a_datagram_is_taken_by_itself(rt: HostRuntime) -> Result<(), Fail> {
     let alloc = rt.alloc();
     let (mut connection, _handle, mut unsolicited) = opened(alloc, 0)?;
     assert_eq!(rt; connection.fill()?, Waiting::Nothing);
-    push(alloc, connection.socket_mut(), 1)?;
+    push(alloc, connection.socket_mut(), &frame(1))?;
     assert!(rt; waits(&mut connection, 1)?);
     assert!(rt; waits(&mut connection, 1)?);
     assert_eq!(rt; settle(&mut connection)?, 1);
@@ -293,103 +208,20 @@ fn a_datagram_is_taken_by_itself(rt: HostRuntime) -> Result<(), Fail> {
     Ok(())
 }
 
+// What two fills of a connection over a link that closes tell.
+fn fill_closed(connection: &mut Tape) -> Result<[Waiting; 2], Fail> {
+    connection.socket_mut().push(Arrival::Closed)?;
+    let first = connection.fill()?;
+    Ok([first, connection.fill()?])
+}
+
 #[test]
 fn a_closed_link_is_not_asked(rt: HostRuntime) -> Result<(), Fail> {
-    let (mut connection, _handle, _unsolicited) = opened(rt.alloc(), 0)?;
-    connection.socket_mut().push(Arrival::Closed)?;
-    assert_eq!(rt; connection.fill()?, Waiting::Closed);
-    assert_eq!(rt; connection.fill()?, Waiting::Nothing);
+    let alloc = rt.alloc();
+    let (mut connection, handle, _unsolicited) = opened(alloc, 0)?;
+    let filled = fill_closed(&mut connection)?;
+    assert_eq!(rt; filled, [Waiting::Closed, Waiting::Nothing]);
     assert_eq!(rt; poll(&mut connection)?, Polled::Ready(()));
-    Ok(())
-}
-
-// A tape on which one call fails and another isn't ready.
-fn planned(alloc: Global, fail: u64, stall: u64) -> Result<TapeLink, Fail> {
-    Ok(TapeLink::with_plan(alloc, vec![in alloc; fail]?, vec![in alloc; stall]?))
-}
-
-// One poll: whether the connection has ended then, and what was sent.
-fn poll_once(connection: &mut Tape) -> Result<(bool, Option<u8>), Fail> {
-    let sent = sent_by_poll(connection)?;
-    Ok((connection.should_shut_down(), sent))
-}
-
-// Two polls of a connection with one request: after each whether it has ended, and what was sent.
-fn polled_twice(alloc: Global, fail: u64, stall: u64) -> Result<[(bool, Option<u8>); 2], Fail> {
-    let (mut connection, handle, _unsolicited): (Tape, ConnectionHandle<RawMessage>, _) =
-        from_socket_with_codec(alloc, planned(alloc, fail, stall)?)?;
-    handle.request(alloc, &mut connection, message(alloc, 99), PEER)?;
-    let first = poll_once(&mut connection)?;
-    let second = poll_once(&mut connection)?;
-    Ok([first, second])
-}
-
-#[test]
-fn calls_of_a_tape_fail_and_stall(rt: HostRuntime) -> Result<(), Fail> {
-    let alloc = rt.alloc();
-    // The first poll reads and sends, and the second reads. Which call fails, which isn't ready, and
-    // what becomes of the connection.
-    let rows = [
-        (0, 0, [(false, Some(1)), (false, None)]),
-        (1, 0, [(true, None), (true, None)]),
-        (2, 0, [(true, None), (true, None)]),
-        (3, 0, [(false, Some(1)), (true, None)]),
-        (0, 1, [(false, Some(1)), (false, None)]),
-        (0, 2, [(false, None), (false, Some(1))]),
-        (2, 2, [(true, None), (true, None)]),
-    ];
-    for (fail, stall, becomes) in rows {
-        assert_eq!(rt;
-            polled_twice(alloc, fail, stall)?,
-            becomes,
-            "at {fail} {stall}"
-        );
-    }
-    Ok(())
-}
-
-// Whether a framed link reads the message of number 5, or why it reads none.
-fn next_read(
-    alloc: Global,
-    framed: &mut NetlinkFramed<RawMessage, TapeLink, NetlinkCodec>,
-) -> Result<Polled<bool>, NoMemory> {
-    match framed.poll_next()? {
-        Polled::Ready((read, source)) => Ok(Polled::Ready(
-            read == message(alloc, 5) && source == PEER,
-        )),
-        Polled::Ended => Ok(Polled::Ended),
-        Polled::NotYet => Ok(Polled::NotYet),
-    }
-}
-
-// Sends three messages, the last two as one datagram.
-fn send_three(
-    alloc: Global,
-    framed: &mut NetlinkFramed<RawMessage, TapeLink, NetlinkCodec>,
-) -> Result<(), FramedError> {
-    framed.start_send((message(alloc, 5), PEER))?;
-    framed.poll_ready()?;
-    framed.start_send((message(alloc, 6), PEER))?;
-    framed.start_send((message(alloc, 7), PEER))?;
-    framed.poll_flush()?;
-    framed.poll_close()?;
-    Ok(())
-}
-
-#[test]
-fn messages_over_a_tape(rt: HostRuntime) -> Result<(), Fail> {
-    let alloc = rt.alloc();
-    let Ok(mut framed) = NetlinkFramed::new(alloc, planned(alloc, 2, 1)?) else {
-        return Err("no memory".into());
-    };
-    push(alloc, framed.get_mut(), 5)?;
-    assert_eq!(rt; next_read(alloc, &mut framed)?, Polled::NotYet);
-    assert_eq!(rt; next_read(alloc, &mut framed)?, Polled::Ended);
-    assert_eq!(rt; next_read(alloc, &mut framed)?, Polled::Ready(true));
-    send_three(alloc, &mut framed)?;
-    assert_eq!(rt; framed.get_ref().backlog(), 0);
-    let mut link = framed.into_inner();
-    assert_eq!(rt; link.take_sent().ok_or("nothing is sent")?.0.len(), 16);
-    assert_eq!(rt; link.take_sent().ok_or("nothing is sent")?.0.len(), 32);
+    assert!(rt; is_refused(alloc, &mut connection, handle));
     Ok(())
 }
