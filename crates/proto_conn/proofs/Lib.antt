@@ -10,6 +10,7 @@ pub mod Popped
 pub mod Counts
 pub mod Numbering
 pub mod Fits
+pub mod Belows
 pub mod Sounds
 pub mod Enqueues
 pub mod Flushes

@@ -1,7 +1,8 @@
 -- What a connection keeps.
-use Rattle.std.proofs.Common.{◌≡◌, ◌+◌, ◌-◌, ◌<◌, ◌≤◌, ◌^◌, ◌&&◌, ℕ, Bool, true, false, cond, set, nat_le, List, [], length, Option, Some, None, OnSome, IfNone, nat_lt, refl, sym, ◌∙◌, ap, subst, arith}
+use Rattle.std.proofs.Common.{◌≡◌, ◌+◌, ◌-◌, ◌<◌, ◌≤◌, ◌^◌, ◌&&◌, ℕ, Bool, true, false, cond, set, nat_le, List, [], length, nat_lt, refl, sym, ◌∙◌, ap, subst, arith}
 use Rattle.std.proofs.Math.ListN.{length-set}
 use Rattle.std.proofs.lemmas.List.{get_or_past}
+use Rattle.stream_list.specs.Listed.{Listed, Room}
 use Rattle.proto_core.specs.Session.{Session, fresh}
 use Rattle.proto_core.specs.declared.request.Request.{Request}
 use Rattle.proto_conn.specs.declared.parts.Held.{Held}
@@ -27,7 +28,7 @@ tallied_fresh = record {
   answered = tt;
 }
 
-pub sound_fresh : {T : Type 0} {text : T → List ℕ} {fits : T → Bool} (s : Session T ℕ) (q : List (Request T ℕ)) (start a b c d : ℕ) (reader : List ℕ) (marks : List Bool) (t : Tallied)
+pub sound_fresh : {T : Type 0} {text : T → List ℕ} {fits : T → Bool} (s : Session T ℕ) (q : List (Request T ℕ)) (start a : ℕ) (b : Room) (c d : ℕ) (reader : List ℕ) (marks : List Bool) (t : Tallied)
     → s ≡ fresh start → q ≡ [] → start < 2 ^ 32
     → a ≡ 0 → c ≡ 0 → marks ≡ [] → t ≡ record { streams = []; handed = 0 } → IsSound text fits s q 0 a b c d held.Nothing reader (length marks) t
 sound_fresh {T} {text} {fits} s q start a b c d reader marks t is none small ea ec unmarked new =
@@ -41,6 +42,7 @@ sound_fresh {T} {text} {fits} s q start a b c d reader marks t is none small ea 
       fit = tt;
       batches = tt;
       replies = omega (arith, ea);
+      known = λ p. absurd (omega (arith, p));
       unsolicited = omega
           (arith, ec);
       held = tt;
@@ -50,11 +52,11 @@ sound_fresh {T} {text} {fits} s q start a b c d reader marks t is none small ea 
     }))))
 
 -- Once the replies are handed on.
-pub sound_forwarded : {T : Type 0} {text : T → List ℕ} {fits : T → Bool} (s s2 : Session T ℕ) (q : List (Request T ℕ)) (count a b c d a2 b2 : ℕ) (h : Held) (reader : List ℕ)
+pub sound_forwarded : {T : Type 0} {text : T → List ℕ} {fits : T → Bool} (s s2 : Session T ℕ) (q : List (Request T ℕ)) (count a : ℕ) (b : Room) (c d a2 : ℕ) (b2 : Room) (h : Held) (reader : List ℕ)
     (given : ℕ) (t t2 : Tallied) (n : ℕ)
-    → s2 ≡ record s { responses = [] } → n ≡ s2.arrived → t2 ≡ record t { handed = n } → a2 ≤ b2 → IsSound text fits s q count a b c d h reader given t
+    → s2 ≡ record s { responses = [] } → n ≡ s2.arrived → t2 ≡ record t { handed = n } → a2 ≤ b2.items → b2 ≡ b → IsSound text fits s q count a b c d h reader given t
     → IsSound text fits s2 q count a2 b2 c d h reader given t2
-sound_forwarded {T} {text} {fits} s s2 q count a b c d a2 b2 h reader given t t2 n is arrived new room i =
+sound_forwarded {T} {text} {fits} s s2 q count a b c d a2 b2 h reader given t t2 n is arrived new within room i =
     let same : t2 ≡ record t { handed = s.arrived } = new ∙ ap (λ k. record t { handed = k }) (arrived ∙ ap (λ (x : Session T ℕ). x.arrived) is) in
     subst (λ (x : Session T ℕ). IsSound text fits x q count a2 b2 c d h reader given t2) (sym is)
     (subst (λ (x : Tallied). IsSound text fits (record s { responses = [] }) q count a2 b2 c d h reader given x) (sym same)
@@ -63,7 +65,8 @@ sound_forwarded {T} {text} {fits} s s2 q count a b c d a2 b2 h reader given t t2
       numbers = i.numbers;
       fit = i.fit;
       batches = i.batches;
-      replies = omega (arith, room);
+      replies = omega (arith, within);
+      known = subst (λ (x : Room). 0 < given → given < x.streams) (sym room) i.known;
       unsolicited = i.unsolicited;
       held = i.held;
       streams = i.streams;
@@ -72,7 +75,7 @@ sound_forwarded {T} {text} {fits} s s2 q count a b c d a2 b2 h reader given t t2
     }))
 
 -- Once requests are taken.
-pub sound_taken : {T : Type 0} {text : T → List ℕ} {fits : T → Bool} (s s2 : Session T ℕ) (q q2 : List (Request T ℕ)) (count count2 a b c d : ℕ) (h : Held) (reader : List ℕ)
+pub sound_taken : {T : Type 0} {text : T → List ℕ} {fits : T → Bool} (s s2 : Session T ℕ) (q q2 : List (Request T ℕ)) (count count2 a : ℕ) (b : Room) (c d : ℕ) (h : Held) (reader : List ℕ)
     (given : ℕ) (t t2 : Tallied)
     → count2 ≡ messages_in q2 → s2.last + count2 ≡ s.last + count → s2.responses ≡ s.responses → s2.incoming ≡ s.incoming → length t2.streams ≡ length t.streams
     → RequestsFit text fits q2 → BatchesFit text fits s2.outgoing
@@ -83,7 +86,8 @@ sound_taken s s2 q q2 count count2 a b c d h reader given t t2 counted last resp
   numbers = let n = i.numbers in omega (arith, n, last);
   fit = fit;
   batches = batches;
-  replies = subst (λ rs. length rs + a ≤ b) (sym responses) i.replies;
+  replies = subst (λ rs. length rs + a ≤ b.items) (sym responses) i.replies;
+  known = i.known;
   unsolicited = subst (λ rs. length rs + c ≤ d) (sym incoming) i.unsolicited;
   held = i.held;
   streams = len ∙ i.streams;
@@ -92,7 +96,7 @@ sound_taken s s2 q q2 count count2 a b c d h reader given t t2 counted last resp
 }
 
 -- Where a batch left the session.
-pub sound_sent : {T : Type 0} {text : T → List ℕ} {fits : T → Bool} (s s2 : Session T ℕ) (q : List (Request T ℕ)) (count a b c d : ℕ) (h : Held) (reader reader2 : List ℕ) (given : ℕ) (t : Tallied)
+pub sound_sent : {T : Type 0} {text : T → List ℕ} {fits : T → Bool} (s s2 : Session T ℕ) (q : List (Request T ℕ)) (count a : ℕ) (b : Room) (c d : ℕ) (h : Held) (reader reader2 : List ℕ) (given : ℕ) (t : Tallied)
     → s2.last ≡ s.last → s2.responses ≡ s.responses → s2.incoming ≡ s.incoming → s2.awaited ≡ s.awaited → s2.arrived ≡ s.arrived → reader2 ≡ reader
     → BatchesFit text fits s2.outgoing
     → IsSound text fits s q count a b c d h reader given t → IsSound text fits s2 q count a b c d h reader2 given t
@@ -101,7 +105,8 @@ sound_sent s s2 q count a b c d h reader reader2 given t last responses incoming
   numbers = let n = i.numbers in omega (arith, n, last);
   fit = i.fit;
   batches = batches;
-  replies = subst (λ rs. length rs + a ≤ b) (sym responses) i.replies;
+  replies = subst (λ rs. length rs + a ≤ b.items) (sym responses) i.replies;
+  known = i.known;
   unsolicited = subst (λ rs. length rs + c ≤ d) (sym incoming) i.unsolicited;
   held = subst (λ r. IsHeld h r) (sym same) i.held;
   streams = i.streams;
@@ -110,16 +115,17 @@ sound_sent s s2 q count a b c d h reader reader2 given t last responses incoming
 }
 
 -- Where room was made, and what waits is held otherwise.
-pub sound_roomy : {T : Type 0} {text : T → List ℕ} {fits : T → Bool} (s s2 : Session T ℕ) (q : List (Request T ℕ)) (count a b c d a2 b2 c2 d2 : ℕ) (h h2 : Held)
+pub sound_roomy : {T : Type 0} {text : T → List ℕ} {fits : T → Bool} (s s2 : Session T ℕ) (q : List (Request T ℕ)) (count a : ℕ) (b : Room) (c d a2 : ℕ) (b2 : Room) (c2 d2 : ℕ) (h h2 : Held)
     (reader reader2 : List ℕ) (given : ℕ) (t : Tallied)
-    → s2 ≡ s → length s2.responses + a2 ≤ b2 → length s2.incoming + c2 ≤ d2 → IsHeld h2 reader2
+    → s2 ≡ s → b2.streams ≡ b.streams → length s2.responses + a2 ≤ b2.items → length s2.incoming + c2 ≤ d2 → IsHeld h2 reader2
     → IsSound text fits s q count a b c d h reader given t → IsSound text fits s2 q count a2 b2 c2 d2 h2 reader2 given t
-sound_roomy {T} {text} {fits} s s2 q count a b c d a2 b2 c2 d2 h h2 reader reader2 given t is replies unsolicited held i = record {
+sound_roomy {T} {text} {fits} s s2 q count a b c d a2 b2 c2 d2 h h2 reader reader2 given t is streams replies unsolicited held i = record {
   counted = i.counted;
   numbers = let n = i.numbers in let e = ap (λ (x : Session T ℕ). x.last) is in omega (arith, n, e);
   fit = i.fit;
   batches = subst (λ (x : Session T ℕ). BatchesFit text fits x.outgoing) (sym is) i.batches;
   replies = replies;
+  known = λ p. let k = i.known p in omega (arith, k, streams);
   unsolicited = unsolicited;
   held = held;
   streams = i.streams;
@@ -128,18 +134,19 @@ sound_roomy {T} {text} {fits} s s2 q count a b c d a2 b2 c2 d2 h h2 reader reade
 }
 
 -- Where a message was taken in, into room for one more.
-pub sound_more : {T : Type 0} {text : T → List ℕ} {fits : T → Bool} (s s2 s3 : Session T ℕ) (q : List (Request T ℕ)) (count a b c d a2 b2 c2 d2 : ℕ) (h h2 : Held)
+pub sound_more : {T : Type 0} {text : T → List ℕ} {fits : T → Bool} (s s2 s3 : Session T ℕ) (q : List (Request T ℕ)) (count a : ℕ) (b : Room) (c d a2 : ℕ) (b2 : Room) (c2 d2 : ℕ) (h h2 : Held)
     (reader reader2 : List ℕ) (given : ℕ) (t t3 : Tallied) (n : ℕ)
-    → s2 ≡ s → length s2.responses + n + a2 ≤ b2 → length s2.incoming + n + c2 ≤ d2 → IsHeld h2 reader2
+    → s2 ≡ s → b2.streams ≡ b.streams → length s2.responses + n + a2 ≤ b2.items → length s2.incoming + n + c2 ≤ d2 → IsHeld h2 reader2
     → s3.last ≡ s2.last → length s3.responses ≤ length s2.responses + n → length s3.incoming ≤ length s2.incoming + n → s3.outgoing ≡ s2.outgoing
     → length t3.streams ≡ length t.streams → IsTallied s3.awaited s3.responses s3.arrived t3
     → IsSound text fits s q count a b c d h reader given t → IsSound text fits s3 q count a2 b2 c2 d2 h2 reader2 given t3
-sound_more {T} {text} {fits} s s2 s3 q count a b c d a2 b2 c2 d2 h h2 reader reader2 given t t3 n is room rest held last responses incoming outgoing len tallied i = record {
+sound_more {T} {text} {fits} s s2 s3 q count a b c d a2 b2 c2 d2 h h2 reader reader2 given t t3 n is streams room rest held last responses incoming outgoing len tallied i = record {
   counted = i.counted;
   numbers = let k = i.numbers in let e = ap (λ (x : Session T ℕ). x.last) is in omega (arith, k, e, last);
   fit = i.fit;
   batches = subst (λ os. BatchesFit text fits os) (sym (outgoing ∙ ap (λ (x : Session T ℕ). x.outgoing) is)) i.batches;
   replies = omega (arith, room, responses);
+  known = λ p. let k = i.known p in omega (arith, k, streams);
   unsolicited = omega (arith, rest, incoming);
   held = held;
   streams = len ∙ i.streams;
@@ -147,12 +154,47 @@ sound_more {T} {text} {fits} s s2 s3 q count a b c d a2 b2 c2 d2 h h2 reader rea
   tallied = tallied;
 }
 
--- Where the list of replies is shorter.
-pub fewer : {X D : Type 0} (len : D → ℕ) (o : Option X) (new old : D) → OnSome o (len new + 1 ≡ len old) → IfNone o (new ≡ old) → len new ≤ len old
-fewer len (Some x) new old less same = omega (arith, less)
-fewer len None new old less same = let e = ap len same in omega (arith, e)
+-- Where there is room for replies of more streams.
+pub sound_known : {T : Type 0} {text : T → List ℕ} {fits : T → Bool} (s : Session T ℕ) (q : List (Request T ℕ)) (count a : ℕ) (b : Room) (c d a2 : ℕ) (b2 : Room) (h : Held)
+    (reader : List ℕ) (given : ℕ) (t : Tallied)
+    → a2 ≡ a → b2.items ≡ b.items → b.streams ≤ b2.streams → IsSound text fits s q count a b c d h reader given t
+    → IsSound text fits s q count a2 b2 c d h reader given t
+sound_known s q count a b c d a2 b2 h reader given t same items more i = record {
+  counted = i.counted;
+  numbers = i.numbers;
+  fit = i.fit;
+  batches = i.batches;
+  replies = let r = i.replies in omega (arith, r, same, items);
+  known = λ p. let k = i.known p in omega (arith, k, more);
+  unsolicited = i.unsolicited;
+  held = i.held;
+  streams = i.streams;
+  newest = i.newest;
+  tallied = i.tallied;
+}
 
-pub sound_fewer : {T : Type 0} {text : T → List ℕ} {fits : T → Bool} (s : Session T ℕ) (q : List (Request T ℕ)) (count a b c d a2 b2 : ℕ) (h : Held) (reader : List ℕ)
+-- The same of a list of replies itself.
+pub sound_reserved : {T X : Type 0} {text : T → List ℕ} {fits : T → Bool} (s : Session T ℕ) (q : List (Request T ℕ)) (count : ℕ) (old now : Listed X) (c d : ℕ) (h : Held)
+    (reader : List ℕ) (given : ℕ) (t : Tallied)
+    → now.items ≡ old.items → now.room.items ≡ old.room.items → old.room.streams ≤ now.room.streams
+    → IsSound text fits s q count (length old.items) old.room c d h reader given t
+    → IsSound text fits s q count (length now.items) now.room c d h reader given t
+sound_reserved {T} {X} s q count old now c d h reader given t same capacity more i =
+    sound_known s q count (length old.items) old.room c d (length now.items) now.room h reader given t
+    (ap length same) capacity more i
+
+-- The same for a queue, a count of streams and what is kept of them that are these.
+pub sound_same : {T : Type 0} {text : T → List ℕ} {fits : T → Bool} (s : Session T ℕ) (q q2 : List (Request T ℕ)) (count a : ℕ) (b : Room) (c d : ℕ)
+    (h : Held) (reader : List ℕ) (given given2 : ℕ) (t t2 : Tallied)
+    → q2 ≡ q → given2 ≡ given → t2 ≡ t → IsSound text fits s q count a b c d h reader given t
+    → IsSound text fits s q2 count a b c d h reader given2 t2
+sound_same {T} {text} {fits} s q q2 count a b c d h reader given given2 t t2 queue marks kept i =
+    subst (λ (x : List (Request T ℕ)). IsSound text fits s x count a b c d h reader given2 t2) (sym queue)
+    (subst (λ n. IsSound text fits s q count a b c d h reader n t2) (sym marks)
+    (subst (λ (x : Tallied). IsSound text fits s q count a b c d h reader given x) (sym kept) i))
+
+-- Where the list of replies is shorter.
+pub sound_fewer : {T : Type 0} {text : T → List ℕ} {fits : T → Bool} (s : Session T ℕ) (q : List (Request T ℕ)) (count a : ℕ) (b : Room) (c d a2 : ℕ) (b2 : Room) (h : Held) (reader : List ℕ)
     (given given2 : ℕ) (t : Tallied)
     → a2 ≤ a → b2 ≡ b → given2 ≡ given → IsSound text fits s q count a b c d h reader given t → IsSound text fits s q count a2 b2 c d h reader given2 t
 sound_fewer s q count a b c d a2 b2 h reader given given2 t less same as_many i = record {
@@ -160,7 +202,8 @@ sound_fewer s q count a b c d a2 b2 h reader given given2 t less same as_many i 
   numbers = i.numbers;
   fit = i.fit;
   batches = i.batches;
-  replies = let r = i.replies in omega (arith, r, less, same);
+  replies = let r = i.replies in let e = ap (λ (x : Room). x.items) same in omega (arith, r, less, e);
+  known = λ p. let k = i.known (omega (arith, p, as_many)) in let e = ap (λ (x : Room). x.streams) same in omega (arith, k, e, as_many);
   unsolicited = i.unsolicited;
   held = i.held;
   streams = i.streams ∙ sym as_many;
@@ -169,7 +212,7 @@ sound_fewer s q count a b c d a2 b2 h reader given given2 t less same as_many i 
 }
 
 -- Once the messages that nothing awaited are handed on.
-pub sound_unsolicited : {T : Type 0} {text : T → List ℕ} {fits : T → Bool} (s s2 : Session T ℕ) (q : List (Request T ℕ)) (count a b c d c2 d2 : ℕ) (h : Held) (reader : List ℕ)
+pub sound_unsolicited : {T : Type 0} {text : T → List ℕ} {fits : T → Bool} (s s2 : Session T ℕ) (q : List (Request T ℕ)) (count a : ℕ) (b : Room) (c d c2 d2 : ℕ) (h : Held) (reader : List ℕ)
     (given : ℕ) (t : Tallied)
     → s2 ≡ record s { incoming = [] } → c2 ≤ d2 → IsSound text fits s q count a b c d h reader given t → IsSound text fits s2 q count a b c2 d2 h reader given t
 sound_unsolicited {T} {text} {fits} s s2 q count a b c d c2 d2 h reader given t is room i =
@@ -180,6 +223,7 @@ sound_unsolicited {T} {text} {fits} s s2 q count a b c d c2 d2 h reader given t 
       fit = i.fit;
       batches = i.batches;
       replies = i.replies;
+      known = i.known;
       unsolicited = omega
           (arith, room);
       held = i.held;
@@ -189,7 +233,7 @@ sound_unsolicited {T} {text} {fits} s s2 q count a b c d c2 d2 h reader given t 
     })
 
 -- Where what waits is held otherwise.
-pub sound_held : {T : Type 0} {text : T → List ℕ} {fits : T → Bool} (s : Session T ℕ) (q : List (Request T ℕ)) (count a b c d : ℕ) (h h2 : Held) (reader reader2 : List ℕ) (given : ℕ) (t : Tallied)
+pub sound_held : {T : Type 0} {text : T → List ℕ} {fits : T → Bool} (s : Session T ℕ) (q : List (Request T ℕ)) (count a : ℕ) (b : Room) (c d : ℕ) (h h2 : Held) (reader reader2 : List ℕ) (given : ℕ) (t : Tallied)
     → IsHeld h2 reader2 → IsSound text fits s q count a b c d h reader given t → IsSound text fits s q count a b c d h2 reader2 given t
 sound_held s q count a b c d h h2 reader reader2 given t held i = record {
   counted = i.counted;
@@ -197,6 +241,7 @@ sound_held s q count a b c d h h2 reader reader2 given t held i = record {
   fit = i.fit;
   batches = i.batches;
   replies = i.replies;
+  known = i.known;
   unsolicited = i.unsolicited;
   held = held;
   streams = i.streams;

@@ -3,6 +3,7 @@ use Rattle.std.proofs.Common.{◌≡◌, ◌+◌, ◌-◌, ◌<◌, ◌≤◌, �
 use Rattle.std.proofs.Math.Seq.{take-append_seam}
 use Rattle.nl_core.specs.declared.message.NetlinkMessage.{NetlinkMessage}
 use Rattle.session_model.specs.declared.address.SocketAddr.{SocketAddr}
+use Rattle.stream_list.specs.Listed.{Room}
 use Rattle.proto_core.specs.Session.{Session, requested}
 use Rattle.proto_core.specs.declared.messages.Outgoing.{Outgoing}
 use Rattle.proto_core.specs.declared.request.ExpectResponse.{ExpectResponse}
@@ -11,6 +12,7 @@ use Rattle.proto_core.specs.declared.request.ReplyExpectation.{ReplyExpectation}
 use Rattle.proto_core.specs.declared.request.Request.{Request}
 use Rattle.proto_conn.specs.declared.parts.Held.{Held}
 use Rattle.proto_conn.specs.declared.tally.Tally.{Tally}
+use Rattle.proto_conn.specs.declared.parts.Reply.{Reply}
 use Rattle.proto_conn.specs.Conn.{Conn, IsHeld, IsSound, next_request, refuses, waiting_in}
 use Rattle.proto_conn.specs.Fitting.{BatchesFit}
 use Rattle.proto_conn.specs.Flushing.{Flushed, FlushedIf, GoesOn, Loads, SendsNext, is_nothing, is_stuck}
@@ -48,7 +50,7 @@ dropped_again t t1 t2 more less =
     ∙ ap (λ (xs : List Tally). record t { streams = xs }) (take-append_seam t.streams (no_tally ∷ []))
 
 -- A connection whose parts stay as they are stays sound.
-pub sound_back : {T : Type 0} {text : T → List ℕ} {fits : T → Bool} (s s2 : Session T ℕ) (q : List (Request T ℕ)) (count a b c d : ℕ) (h : Held) (reader reader2 : List ℕ)
+pub sound_back : {T : Type 0} {text : T → List ℕ} {fits : T → Bool} (s s2 : Session T ℕ) (q : List (Request T ℕ)) (count a : ℕ) (b : Room) (c d : ℕ) (h : Held) (reader reader2 : List ℕ)
     (given given2 : ℕ) (t t2 : Tallied)
     → s2 ≡ s → reader2 ≡ reader → given2 ≡ given → t2 ≡ t → IsSound text fits s q count a b c d h reader given t
     → IsSound text fits s2 q count a b c d h reader2 given2 t2
@@ -99,12 +101,12 @@ module _ {T S : Type 0} (meaning : S → Meaning) (kind : T → ℕ) (text : T �
 
 -- A connection that has taken a request of the next stream is sound, where no request waits.
 pub sound_submitted : {T : Type 0} (kind : T → ℕ) (text : T → List ℕ) {fits : T → Bool} (s s2 : Session T ℕ) (q : List (Request T ℕ)) (r : Request T ℕ)
-    (count a b c d : ℕ) (h : Held) (reader reader2 : List ℕ) (given given2 : ℕ) (t t1 t2 : Tallied) (n before after : ℕ)
+    (count a : ℕ) (b : Room) (c d : ℕ) (h : Held) (reader reader2 : List ℕ) (given given2 : ℕ) (t t1 t2 : Tallied) (n before after : ℕ)
     → s2 ≡ record (requested kind text s r) { outgoing = s2.outgoing } → reader2 ≡ reader → given2 ≡ given + 1 → r.metadata ≡ given + 1 → q ≡ []
     → t1 ≡ record t { streams = t.streams ++ no_tally ∷ [] } → t2 ≡ with_request r.metadata n t1
-    → (s.last + count) + length r.messages < 2 ^ 32 → before ≡ length s.awaited → after ≡ length s2.awaited → n ≡ after - before
+    → given2 < b.streams → (s.last + count) + length r.messages < 2 ^ 32 → before ≡ length s.awaited → after ≡ length s2.awaited → n ≡ after - before
     → BatchesFit text fits s2.outgoing → IsSound text fits s q count a b c d h reader given t → IsSound text fits s2 q count a b c d h reader2 given2 t2
-sound_submitted {T} kind text {fits} s s2 q r count a b c d h reader reader2 given given2 t t1 t2 n before after is same one next none more noted room
+sound_submitted {T} kind text {fits} s s2 q r count a b c d h reader reader2 given given2 t t1 t2 n before after is same one next none more noted known room
     ea eb en batches i =
     let len : length t1.streams ≡ given + 1 =
     let e = ap (λ (x : Tallied). length x.streams) more in
@@ -116,7 +118,8 @@ sound_submitted {T} kind text {fits} s s2 q r count a b c d h reader reader2 giv
       numbers = let e = ap (λ (x : Session T ℕ). x.last) is in omega (arith, room, e);
       fit = i.fit;
       batches = batches;
-      replies = subst (λ rs. length rs + a ≤ b) (sym (ap (λ (x : Session T ℕ). x.responses) is)) i.replies;
+      replies = subst (λ rs. length rs + a ≤ b.items) (sym (ap (λ (x : Session T ℕ). x.responses) is)) i.replies;
+      known = λ _. known;
       unsolicited = subst (λ rs. length rs + c ≤ d) (sym (ap (λ (x : Session T ℕ). x.incoming) is)) i.unsolicited;
       held = subst (λ x. IsHeld h x) (sym same) i.held;
       streams = same_length t1 t2 r.metadata n noted ∙ len ∙ sym one;
@@ -212,37 +215,37 @@ sends_as_poll {T} {S} meaning kind text r before now takes h free = record {
 -- The same for a connection that is this one.
 pub submits_at : {T S : Type 0} (meaning : S → Meaning) (kind : T → ℕ) (text : T → List ℕ) (v w : Conn T S) → v ≡ w → (h : Held) (f f2 : Framing S)
     (s2 : Session T ℕ) (ms : List (NetlinkMessage T)) (expect : ExpectResponse) (to : SocketAddr) (n : ℕ) (broke : Bool) (marks : List Bool)
+    (replies : List (Reply T))
     → v.link ≡ f.link → v.waiting ≡ waiting_in h f.source f.reader → v.unsent ≡ datagram_of f.writer f.destination → v.closed ≡ false
-    → n ≡ length v.given_up + 1 → marks ≡ v.given_up ++ false ∷ []
+    → n ≡ length v.given_up + 1 → marks ≡ v.given_up ++ false ∷ [] → replies ≡ v.replies
     → Takes meaning kind text f v.session (record { metadata = n; messages = ms; destination = to; expect_response = expect }) broke f2 s2
     → Submits kind text meaning (next_request w ms expect to) w (record v {
       link = f2.link;
       waiting = waiting_in h f2.source f2.reader;
       unsent = datagram_of f2.writer f2.destination;
       session = s2;
+      replies = replies;
       given_up = marks;
       closed = broke;
     })
-submits_at {T} {S} meaning kind text v w is h f f2 s2 ms expect to n broke marks link waiting unsent unclosed number marked d =
-    subst (λ (x : Conn T S). Submits kind text meaning (next_request x ms expect to) x (record v {
-      link = f2.link;
-      waiting = waiting_in h f2.source f2.reader;
-      unsent = datagram_of f2.writer f2.destination;
-      session = s2;
-      given_up = marks;
-      closed = broke;
-    })) is
-    (subst (λ xs. Submits kind text meaning (next_request v ms expect to) v (record v {
-      link = f2.link;
-      waiting = waiting_in h f2.source f2.reader;
-      unsent = datagram_of f2.writer f2.destination;
-      session = s2;
-      given_up = xs;
-      closed = broke;
-    })) (sym marked)
+submits_at {T} {S} meaning kind text v w is h f f2 s2 ms expect to n broke marks replies link waiting unsent unclosed number marked listed d =
+    subst (λ (x : Conn T S). Submits kind text meaning (next_request x ms expect to) x (now replies marks)) is
+    (subst (λ rs. Submits kind text meaning (next_request v ms expect to) v (now rs marks)) (sym listed)
+    (subst (λ xs. Submits kind text meaning (next_request v ms expect to) v (now v.replies xs)) (sym marked)
     (submits_by meaning kind text v h f f2 s2 (next_request v ms expect to) broke link waiting unsent unclosed
     (subst (λ k. Takes meaning kind text f v.session (record { metadata = k; messages = ms; destination = to; expect_response = expect })
-    broke f2 s2) number d)))
+    broke f2 s2) number d))))
+  where
+    now : List (Reply T) → List Bool → Conn T S
+    now rs xs = record v {
+      link = f2.link;
+      waiting = waiting_in h f2.source f2.reader;
+      unsent = datagram_of f2.writer f2.destination;
+      session = s2;
+      replies = rs;
+      given_up = xs;
+      closed = broke;
+    }
 
 -- The same for messages with their marks.
 pub submits_marked : {T S : Type 0} (meaning : S → Meaning) (kind : T → ℕ) (text : T → List ℕ) (before now : Conn T S)

@@ -1,77 +1,69 @@
 -- The oldest reply of a stream is taken out of a list; and whether more of it comes.
-use Rattle.std.proofs.Common.{◌≡◌, ◌+◌, ◌<◌, ◌==◌, ◌||◌, ◌≤◌, ℕ, zero, suc, Bool, true, false, cond, not, nat_lt, List, [], ◌∷◌, ◌++◌, length, get_or, take, drop, Option, Some, None, IfNone, IfSome, OnSome, IsSome, ◌↔◌, ◌&&◌, refl, sym, ◌∙◌, ap, subst, arith, drop-cons}
-use Rattle.std.specs.List.{list_any, position, position_or_len, remove}
-use Rattle.std.proofs.lemmas.Bool.Decides.{nat_tests}
-use Rattle.std.proofs.lemmas.List.{take-append-drop}
-use Rattle.std.proofs.lemmas.List.Quantifiers.{position-Some}
+use Rattle.std.proofs.Common.{◌≡◌, ◌+◌, ◌==◌, ◌||◌, ◌≤◌, ℕ, Bool, true, false, not, [], ◌∷◌, ◌++◌, length, Option, Some, None, IfNone, IfSome, ◌&&◌, sym, ◌∙◌, ap, arith, length-append}
+use Rattle.std.specs.List.{filter, list_any}
+use Rattle.std.proofs.lemmas.List.Sums.{count_by-le-length, length-filter}
+use Rattle.stream_list.specs.Listed.{HasNone as ListHasNone, Listed, TakesOldest}
 use Rattle.proto_conn.specs.declared.parts.Reply.{Reply}
 use Rattle.proto_conn.specs.Conn.{Conn, shuts_down}
 use Rattle.proto_conn.specs.Streaming.{HasNone, TakesReply, awaits, is_asking, is_ended}
 use Rattle.proto_conn.specs.Tallies.{awaits_of, replies_of}
 
-none_before : {X : Type 0} (p : X → Bool) (xs : List X) (i : ℕ) (d : X) → i < length xs → ((k : ℕ) → k < i → p (get_or xs k d) ≡ false)
-    → list_any p (take i xs) ≡ false
-none_before p [] i d lt h = absurd (omega (arith, lt))
-none_before p (x ∷ xs) zero d lt h = refl
-none_before p (x ∷ xs) (suc i) d lt h =
-    let first : p x ≡ false = h 0 (omega arith) in
-    ap (λ b. b || list_any p (take i xs)) first ∙ none_before p xs i d (omega (arith, lt)) (λ k less. h (suc k) (omega (arith, less)))
+module _ {T S : Type 0} (id : ℕ) (opened s : Conn T S) (view : opened ≡ s) (old now : Listed (Reply T)) (own : opened.replies ≡ old.items) where
+  -- None of the stream is taken out of a list, or its oldest.
+  pub none_taken : (r : Option (Reply T)) → IfNone r (ListHasNone (λ (x : Reply T). x.stream) id old now)
+      → IfNone r (HasNone id s (record opened { replies = now.items }))
+  none_taken None h = record {
+    none = ap (λ (c : Conn T S). list_any (λ (x : Reply T). x.stream == id) c.replies) (sym view) ∙ ap (list_any (λ (x : Reply T). x.stream == id)) own ∙ h.none;
+    same = ap (λ (l : Listed (Reply T)). record opened { replies = l.items }) h.same ∙ ap (λ rs. record opened { replies = rs }) (sym own) ∙ view;
+  }
+  none_taken (Some r) h = tt
 
-none_past : {X : Type 0} (p : X → Bool) (xs : List X) → length xs ≤ position_or_len p xs → list_any p xs ≡ false
-none_past p [] h = refl
-none_past p (x ∷ xs) h =
-    elim (p x) as (λ b. length (x ∷ xs) ≤ cond (not b) (1 + position_or_len p xs) 0 → (b || list_any p xs) ≡ false) [
-      | true ↦ λ k. absurd (omega (arith, k))
-      | false ↦ λ k. none_past p xs (omega (arith, k))
-    ] h
+  pub one_taken : (r : Option (Reply T)) → IfSome r (λ x. TakesOldest (λ (y : Reply T). y.stream) id old x now)
+      → IfSome r (λ x. TakesReply id s x (record opened { replies = now.items }))
+  one_taken None h = tt
+  one_taken (Some r) h = record {
+    earlier = h.earlier;
+    later = h.later;
+    among = ap (λ (c : Conn T S). c.replies) (sym view) ∙ own ∙ h.among;
+    own = h.own;
+    others = h.others;
+    stays = ap (λ (l : Listed (Reply T)). record opened { replies = l.items }) h.stays
+        ∙ ap (λ (c : Conn T S). record c { replies = h.earlier ++ h.later }) view;
+  }
 
-none_from : {X : Type 0} (p : X → Bool) (xs : List X) → position p xs ≡ None → list_any p xs ≡ false
-none_from p xs e =
-    elim (nat_lt (position_or_len p xs) (length xs)) as (λ b. nat_lt (position_or_len p xs) (length xs) ≡ b
-    → cond b (Some (position_or_len p xs)) None ≡ None → list_any p xs ≡ false) [
-      | true ↦ λ is f. cc
-      | false ↦ λ is f. none_past p xs (grind (arith, nat_tests))
-    ] refl e
+-- ---- a shorter list
 
-same_number : (a b : ℕ) → (a == b) ≡ true → a ≡ b
-same_number a b h = grind (arith, nat_tests)
+-- No more items are in a list, and the room stays.
+pub record IsShorter {X : Type 0} (old now : Listed X) : Type 0 where
+  pub less : length now.items ≤ length old.items
+  pub room : now.room ≡ old.room
 
-module _ {T S : Type 0} (id : ℕ) (v c : Conn T S) (view : v ≡ c) where
-  -- None of the stream is in the list.
-  pub none_taken : position (λ (r : Reply T). r.stream == id) v.replies ≡ None → HasNone id c c
-  none_taken e = record { none = ap (λ (x : Conn T S). list_any (λ (r : Reply T). r.stream == id) x.replies) (sym view) ∙ none_from _ v.replies e; same = refl }
+shorter_same : {X : Type 0} (old now : Listed X) → now ≡ old → IsShorter old now
+shorter_same {X} old now same = let e = ap (λ (l : Listed X). length l.items) same in record { less = omega (arith, e); room = ap (λ (l : Listed X). l.room) same }
 
-  -- One is.
-  pub one_taken : (i : ℕ) (r : Reply T) → position (λ (x : Reply T). x.stream == id) v.replies ≡ Some i → r ≡ get_or v.replies i r
-      → TakesReply id c r (record v { replies = remove v.replies i })
-  one_taken i r e is =
-      let found = position-Some (λ (x : Reply T). x.stream == id) v.replies i r e in
-      record {
-        earlier = take i v.replies;
-        later = drop (suc i) v.replies;
-        among = ap (λ (x : Conn T S). x.replies) (sym view) ∙ sym (take-append-drop i v.replies)
-            ∙ ap (λ rest. take i v.replies ++ rest) (drop-cons v.replies i r found.0 ∙ ap (λ x. x ∷ drop (suc i) v.replies) (sym is));
-        own = same_number r.stream id (ap (λ (x : Reply T). x.stream == id) is ∙ found.1);
-        others = none_before (λ (x : Reply T). x.stream == id) v.replies i r found.0 found.2;
-        stays = ap (λ (x : Conn T S). record x { replies = remove v.replies i }) view;
-      }
+pub shorter_popped : {X : Type 0} (old now : Listed X) (r : Option X) → IfNone r ((old.items ≡ []) × (now ≡ old))
+    → IfSome r (λ x. old ≡ record now { items = x ∷ now.items }) → IsShorter old now
+shorter_popped {X} old now None none some = shorter_same old now none.1
+shorter_popped {X} old now (Some x) none some =
+    let e = ap (λ (l : Listed X). length l.items) some in
+    record { less = omega (arith, e); room = sym (ap (λ (l : Listed X). l.room) some) }
 
--- What was taken out at the place of the oldest reply of a stream.
-pub taken_some : {T S : Type 0} (id : ℕ) (v c : Conn T S) (view : v ≡ c) (i : ℕ) (o : Option (Reply T)) (after : List (Reply T))
-    → position (λ (x : Reply T). x.stream == id) v.replies ≡ Some i
-    → IfSome o (λ y. y ≡ get_or v.replies i y) → OnSome o (after ≡ remove v.replies i) → IfSome o (λ r. TakesReply id c r (record v { replies = after }))
-taken_some id v c view i None after e h k = tt
-taken_some id v c view i (Some r) after e h k = subst (λ rs. TakesReply id c r (record v { replies = rs })) (sym k) (one_taken id v c view i r e h)
+pub shorter_taken : {X : Type 0} (stream : X → ℕ) (id : ℕ) (old now : Listed X) (r : Option X) → IfNone r (ListHasNone stream id old now)
+    → IfSome r (λ x. TakesOldest stream id old x now) → IsShorter old now
+shorter_taken {X} stream id old now None none some = shorter_same old now none.same
+shorter_taken {X} stream id old now (Some x) none some =
+    let all = ap length some.among in
+    let sum = length-append some.earlier (x ∷ some.later) in
+    let e = ap (λ (l : Listed X). length l.items) some.stays in
+    let rest = length-append some.earlier some.later in
+    record { less = omega (arith, all, sum, e, rest); room = ap (λ (l : Listed X). l.room) some.stays }
 
-pub taken_none : {X : Type 0} (P : Type 0) (p : X → Bool) (xs : List X) (i n : ℕ) (o : Option X) → position p xs ≡ Some i → length xs ≡ n
-    → (IsSome o ↔ (i < n)) → IfNone o P
-taken_none P p xs i n (Some x) e len h = tt
-taken_none P p [] i n None e len h = cc
-taken_none P p (x ∷ xs) i n None e len h =
-    let found = position-Some p (x ∷ xs) i x e in
-    let within = found.0 in
-    let never : false ≡ true = h.1 (omega (arith, within, len)) in
-    cc
+pub shorter_cleared : {X : Type 0} (p : X → Bool) (old now : Listed X) → now ≡ record old { items = filter p old.items } → IsShorter old now
+shorter_cleared {X} p old now is =
+    let e = ap (λ (l : Listed X). length l.items) is in
+    let n = length-filter p old.items in
+    let le = count_by-le-length p old.items in
+    record { less = omega (arith, e, n, le); room = ap (λ (l : Listed X). l.room) is }
 
 -- ---- whether more comes
 

@@ -6,6 +6,7 @@ use Rattle.nl_core.specs.declared.message.NetlinkMessage.{NetlinkMessage}
 use Rattle.nl_core.specs.declared.message.NetlinkPayload.{NetlinkPayload}
 use Rattle.nl_core.specs.declared.message.NetlinkPayload.TheVariants.{Done, Error, Noop, Overrun, InnerMessage}
 use Rattle.session_model.specs.declared.address.SocketAddr.{SocketAddr}
+use Rattle.stream_list.specs.Listed.{Room}
 use Rattle.proto_core.specs.Session.{Session, fresh, requested}
 use Rattle.proto_core.specs.declared.request.ExpectResponse.{ExpectResponse}
 use Rattle.proto_core.specs.declared.request.Request.{Request}
@@ -187,13 +188,14 @@ queued r c = record c { queue = c.queue ++ r ∷ []; given_up = c.given_up ++ fa
 -- the lists for what waits in the session; no bytes beside an overrun; and of each stream what is awaited and waits in the session, where the requests
 -- of the newest ones are queued.
 pub record IsSound {T : Type 0} (text : T → List ℕ) (fits : T → Bool) (s : Session T ℕ) (queue : List (Request T ℕ))
-    (count replies_len replies_room unsolicited_len unsolicited_room : ℕ) (h : Held) (reader : List ℕ)
+    (count replies_len : ℕ) (replies_room : Room) (unsolicited_len unsolicited_room : ℕ) (h : Held) (reader : List ℕ)
     (given : ℕ) (t : Tallied) : Type 0 where
   pub counted : count ≡ messages_in queue
   pub numbers : s.last + count < 2 ^ 32
   pub fit : RequestsFit text fits queue
   pub batches : BatchesFit text fits s.outgoing
-  pub replies : length s.responses + replies_len ≤ replies_room
+  pub replies : length s.responses + replies_len ≤ replies_room.items
+  pub known : 0 < given → given < replies_room.streams
   pub unsolicited : length s.incoming + unsolicited_len ≤ unsolicited_room
   pub held : IsHeld h reader
   pub streams : length t.streams ≡ given

@@ -79,6 +79,10 @@ module _ {T : Type 0} where
     pub named : AllByRecursion (λ (w : Awaited ℕ). 0 < w.stream) ws
     pub answered : AllByRecursion (λ (r : Response T ℕ). 0 < r.metadata) rs
 
+  -- The streams of replies are below a number.
+  abbrev pub AreBelow : ℕ → List (Response T ℕ) → Type 0
+  AreBelow n rs = AllByRecursion (λ (r : Response T ℕ). r.metadata < n) rs
+
   -- The requests of a queue are those of the newest streams, in order.
   abbrev pub AreNewest : ℕ → List (Request T ℕ) → Type 0
   AreNewest given [] = Unit {0}

@@ -30,6 +30,7 @@ use session_model::SocketAddr;
 use std::alloc::Global;
 use std::collections::VecDeque;
 use std::marker::Model;
+use stream_list::StreamList;
 pub use unsolicited::Unsolicited;
 
 /// A session over a link, with the requests that wait for it and what it hands out.
@@ -41,7 +42,7 @@ pub struct Connection<T: NetlinkSerializable, S, C = NetlinkCodec> {
     queue: VecDeque<Request<T, u64>>,
     // How many messages are queued.
     count: u32,
-    replies: VecDeque<Reply<T>>,
+    replies: StreamList<Reply<T>>,
     unsolicited: VecDeque<Incoming<T>>,
     given_up: Vec<bool>,
     tallies: Tallies,
@@ -78,7 +79,7 @@ impl<T: NetlinkSerializable, S, C> Model for Connection<T, S, C> {
     } };
 
     ghost invariant = { λ c. IsSound T.text T.fitting c.protocol.session c.queue.items c.count
-        (deque_len c.replies) (deque_capacity c.replies) (deque_len c.unsolicited) (deque_capacity c.unsolicited)
+        (length c.replies.items) c.replies.room (deque_len c.unsolicited) (deque_capacity c.unsolicited)
         c.held c.framed.reader (length c.given_up.items) c.tallies };
 }
 
@@ -99,7 +100,7 @@ impl<T: NetlinkSerializable, S, C> Connection<T, S, C> {
             protocol: Protocol::with_start(alloc, start),
             queue: VecDeque::new(alloc),
             count: 0,
-            replies: VecDeque::new(alloc),
+            replies: StreamList::new(alloc),
             unsolicited: VecDeque::new(alloc),
             given_up: Vec::new(alloc),
             tallies: Tallies::new(alloc),
@@ -273,11 +274,12 @@ impl<T: NetlinkSerializable, S, C> Connection<T, S, C> {
         ensures cause { IfErr result (λ e. IsRefused T.text T.fitting self.old messages e) }
     {
         self.check_request(messages.as_slice())?;
+        let metadata = self.given_up.len() as u64 + 1;
+        self.replies.reserve_stream(metadata)?;
         self.queue.reserve(1)?;
         self.given_up.reserve(1)?;
         self.tallies.add()?;
         self.given_up.push_reserved(false);
-        let metadata = self.given_up.len() as u64;
         self.count += messages.len() as u32;
         self.queue.push_back_reserved(Request {
             metadata,

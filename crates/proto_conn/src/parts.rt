@@ -3,6 +3,7 @@ ghost use Rattle.std.specs.Prelude.{◌≡◌};
 ghost use Rattle.proto_conn.specs.Conn.{is_overrun};
 
 use nl_core::NetlinkMessage;
+use stream_list::InStream;
 
 /// A reply that was forwarded, of a stream.
 #[derive(Debug, PartialEq, Eq, Drop)]
@@ -11,6 +12,14 @@ pub struct Reply<T> {
     pub arrival: u64,
     pub stream: u64,
     pub message: NetlinkMessage<T>,
+}
+
+impl<T> InStream for Reply<T> {
+    ghost stream = { λ r. r.stream };
+
+    fn stream(&self) -> u64 {
+        self.stream
+    }
 }
 
 /// What waits in a connection to be handled.

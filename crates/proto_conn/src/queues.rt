@@ -1,10 +1,9 @@
 //! What moves between a connection's queue, its session and its lists.
 ghost use Rattle.std.specs.Prelude.{◌≡◌, ◌==◌, ◌+◌, ◌≤◌, ◌<◌, ◌^◌, [], ◌∷◌, ◌++◌, length, if◌then◌else◌, OnErr, OnOk, true};
 ghost use Rattle.std.specs.VecDeque.{deque_capacity, deque_len};
-ghost use Rattle.std.specs.List.{position};
 ghost use Rattle.proto_conn.specs.Conn.{TookSome, gave_up, handed_on, is_kept_back, messages_in, taken_in};
 ghost use Rattle.proto_conn.specs.Fitting.{BatchesFit, IsTakable, RequestsFit};
-ghost use Rattle.proto_conn.specs.Tallies.{AreNewest, IsTallied};
+ghost use Rattle.proto_conn.specs.Tallies.{AreBelow, AreNewest, IsTallied};
 ghost use Rattle.proto_core.specs.declared.request.RequestRefusal.TheVariants.{NoMemory as OutOfMemory};
 
 use crate::parts::{Forward, Reply};
@@ -12,6 +11,7 @@ use crate::tally::Tallies;
 use nl_core::{NetlinkPayload, NetlinkSerializable, NoMemory};
 use proto_core::{Incoming, Protocol, Request, RequestRefusal, Response};
 use std::collections::VecDeque;
+use stream_list::StreamList;
 
 // Whether a reply is kept back by its payload.
 fn is_kept_back<T>(forward: Forward, payload: &NetlinkPayload<T>) -> bool
@@ -36,15 +36,16 @@ fn is_given_up(given_up: &[bool], stream: u64) -> bool
 
 // Hands one reply on, unless it is kept back or its stream was given up.
 fn hand_on<T: Drop>(
-    replies: &mut VecDeque<Reply<T>>,
+    replies: &mut StreamList<Reply<T>>,
     given_up: &[bool],
     forward: Forward,
     response: Response<T, u64>,
 )
-    requires { deque_len replies.old < deque_capacity replies.old }
+    requires room { length replies.old.items < replies.old.room.items }
+    requires stream { response.metadata < replies.old.room.streams }
     ensures replies { replies.new.items ≡ replies.old.items ++ handed_on forward given_up.now (response ∷ []) }
-    ensures len { deque_len replies.new ≤ deque_len replies.old + 1 }
-    ensures capacity { deque_capacity replies.new ≡ deque_capacity replies.old }
+    ensures len { length replies.new.items ≤ length replies.old.items + 1 }
+    ensures room { replies.new.room ≡ replies.old.room }
 {
     if is_kept_back(forward, &response.message.payload) {
         return;
@@ -62,15 +63,17 @@ fn hand_on<T: Drop>(
 /// Hands the replies of a session on.
 pub fn forward_responses<T: Drop>(
     protocol: &mut Protocol<T, u64>,
-    replies: &mut VecDeque<Reply<T>>,
+    replies: &mut StreamList<Reply<T>>,
     given_up: &[bool],
     forward: Forward,
 )
-    requires { length protocol.old.session.responses + deque_len replies.old ≤ deque_capacity replies.old }
+    requires room { length protocol.old.session.responses + length replies.old.items ≤ replies.old.room.items }
+    requires streams { AreBelow replies.old.room.streams protocol.old.session.responses }
     ensures session { protocol.new.session ≡ record protocol.old.session { responses = [] } }
     ensures replies { replies.new.items ≡
         replies.old.items ++ handed_on forward given_up.now protocol.old.session.responses }
-    ensures room { deque_len replies.new ≤ deque_capacity replies.new }
+    ensures room { replies.new.room ≡ replies.old.room }
+    ensures fits { length replies.new.items ≤ replies.new.room.items }
 {
     'replies: while let Some(response) = protocol.next_response() {
         hand_on(replies, given_up, forward, response);
@@ -156,11 +159,4 @@ pub fn take_requests<T: NetlinkSerializable>(
         }
     }
     Ok(())
-}
-
-/// The place of the oldest reply of a stream.
-pub fn find_reply<T>(replies: &VecDeque<Reply<T>>, stream: u64) -> Option<usize>
-    ensures { result ≡ position (λ r. r.stream == stream) replies.now.items }
-{
-    replies.iter().position(|reply| reply.stream == stream)
 }

@@ -1,5 +1,6 @@
 -- A list whose items lead to each other: made, given room, pushed to and taken from.
-use Rattle.std.proofs.Common.{◌≡◌, ◌==◌, ◌||◌, ◌+◌, ◌<◌, ◌≤◌, ℕ, zero, suc, Bool, false, not, List, [], ◌∷◌, ◌++◌, map, length, get_or, Option, Some, None, IfNone, OnOk, Result, Ok, Err, is_some, count_by, refl, sym, ap, subst, ◌∙◌, arith, length-append}
+use Rattle.std.proofs.Common.{◌≡◌, ◌==◌, ◌||◌, ◌+◌, ◌<◌, ◌≤◌, ℕ, zero, suc, Bool, false, not, List, [], ◌∷◌, ◌++◌, map, length, get_or, Option, Some, None}
+use Rattle.std.proofs.Common.{IfNone, OnOk, Result, Ok, Err, is_some, count_by, refl, sym, ap, subst, ◌∙◌, arith, length-append}
 use Rattle.std.specs.List.{filter, list_any}
 use Rattle.std.proofs.lemmas.List.{get_or_past, length-map, map-append}
 use Rattle.slab.specs.Slab.{Slab, get, slab_len}

@@ -10,7 +10,8 @@ use Rattle.stream_list.specs.declared.node.Node.{Node}
 use Rattle.stream_list.specs.Places.{AreApart, IsFree, ends_of, ends_without, first_from, last_from, no_ends, of_stream}
 use Rattle.stream_list.specs.Linked.{Changes, IsLinked, IsOldestAt, TakesOut, changed, has_entry_of, linked, node_between}
 use Rattle.stream_list.proofs.Splits.{filter_none, none_at, same_is, same_number, split-append, swapped}
-use Rattle.stream_list.proofs.Places.{apart-without, apart_after, apart_before, ends-without, first_free, free-left, free-right, last-append, last_free, none_last}
+use Rattle.stream_list.proofs.Places.{apart-without, apart_after, apart_before, ends-without, first_free, free-left, free-right, last-append, last_free}
+use Rattle.stream_list.proofs.Places.{none_last}
 use Rattle.stream_list.proofs.Chains.{changed_at, changed_other, of-append, of_dropped, of_kept}
 
 module _ {X : Type 0} (stream : X → ℕ) where

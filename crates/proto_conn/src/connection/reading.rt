@@ -18,26 +18,28 @@ use proto_core::{Incoming, NetlinkMessageCodec, Protocol};
 use session_model::SocketAddr;
 use std::alloc::Global;
 use std::collections::VecDeque;
+use stream_list::StreamList;
 
 // Makes room for so many messages more in a session, and in the lists for what waits there and as many more.
 pub fn make_room<T>(
     protocol: &mut Protocol<T, u64>,
-    replies: &mut VecDeque<Reply<T>>,
+    replies: &mut StreamList<Reply<T>>,
     unsolicited: &mut VecDeque<Incoming<T>>,
     more: usize,
 ) -> Result<(), NoMemory>
-    requires replies { length protocol.old.session.responses + deque_len replies.old ≤ deque_capacity replies.old }
+    requires replies { length protocol.old.session.responses + length replies.old.items ≤ replies.old.room.items }
     requires unsolicited { length protocol.old.session.incoming + deque_len unsolicited.old
         ≤ deque_capacity unsolicited.old }
     ensures spare { OnOk result (more ≤ protocol.new.spare) }
     ensures session { protocol.new.session ≡ protocol.old.session }
     ensures same_replies { replies.new.items ≡ replies.old.items }
     ensures same_unsolicited { unsolicited.new.items ≡ unsolicited.old.items }
-    ensures replies { length protocol.new.session.responses + deque_len replies.new ≤ deque_capacity replies.new }
+    ensures streams { replies.new.room.streams ≡ replies.old.room.streams }
+    ensures replies { length protocol.new.session.responses + length replies.new.items ≤ replies.new.room.items }
     ensures unsolicited { length protocol.new.session.incoming + deque_len unsolicited.new
         ≤ deque_capacity unsolicited.new }
     ensures more_replies { OnOk result (
-        length protocol.new.session.responses + more + deque_len replies.new ≤ deque_capacity replies.new) }
+        length protocol.new.session.responses + more + length replies.new.items ≤ replies.new.room.items) }
     ensures more_unsolicited { OnOk result (
         length protocol.new.session.incoming + more + deque_len unsolicited.new ≤ deque_capacity unsolicited.new) }
 {

@@ -4,7 +4,6 @@ ghost use Rattle.proto_conn.specs.Streaming.{HasNone, TakesReply, awaits, is_ask
 
 use super::Connection;
 use crate::parts::Reply;
-use crate::queues::find_reply;
 use nl_core::NetlinkSerializable;
 
 // Marks a stream as given up, if it was given.
@@ -21,7 +20,7 @@ impl<T: NetlinkSerializable + Drop, S, C> Connection<T, S, C> {
     pub fn give_up(&mut self, stream: u64)
         ensures { self.new ≡ without_stream stream self.old }
     {
-        self.replies.retain(|reply| reply.stream != stream);
+        self.replies.clear_of(stream);
         mark(&mut self.given_up, stream);
     }
 }
@@ -56,9 +55,6 @@ impl<T: NetlinkSerializable, S, C> Connection<T, S, C> {
         ensures none { IfNone result (HasNone stream self.old self.new) }
         ensures some { IfSome result (λ r. TakesReply stream self.old r self.new) }
     {
-        match find_reply(&self.replies, stream) {
-            Some(at) => self.replies.remove(at),
-            None => None,
-        }
+        self.replies.pop_front_of(stream)
     }
 }

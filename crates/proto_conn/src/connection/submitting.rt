@@ -42,9 +42,10 @@ impl<T: NetlinkSerializable + Drop, S: Link, C: NetlinkMessageCodec> Connection<
         ensures cause { IfErr result (λ e. IsRefused T.text T.fitting self.old messages e) }
     {
         self.check_request(messages.as_slice())?;
+        let metadata = self.given_up.len() as u64 + 1;
+        self.replies.reserve_stream(metadata)?;
         self.given_up.reserve(1)?;
         self.tallies.add()?;
-        let metadata = self.given_up.len() as u64 + 1;
         let awaited = self.protocol.pending_len();
         let request = Request {
             metadata,

@@ -148,11 +148,11 @@ returns-in-NotYet-clause-ok g c =
 pub invariant_of-self : goal.invariant_of-self
 invariant_of-self g c =
     sound_roomy c.self.inside.protocol.session _ _ _ _ _ _ _ _ _ _ _ c.self.inside.held _ c.self.inside.framed.reader _ _ _
-    c.make_room.ensures.session c.make_room.ensures.replies c.make_room.ensures.unsolicited c.self.invariant.held c.self.invariant
+    c.make_room.ensures.session c.make_room.ensures.streams c.make_room.ensures.replies c.make_room.ensures.unsolicited c.self.invariant.held c.self.invariant
 
 pub invariant_of-self-in_err-step : goal.invariant_of-self-in_err-step
 invariant_of-self-in_err-step g c =
     sound_roomy c.self.inside.protocol.session _ _ _ _ _ _ _ _ _ _ _ c.self.inside.held _ c.self.inside.framed.reader _ _ _
-    c.make_room.ensures.session c.make_room.ensures.replies c.make_room.ensures.unsolicited
+    c.make_room.ensures.session c.make_room.ensures.streams c.make_room.ensures.replies c.make_room.ensures.unsolicited
     (subst (λ (r : List ℕ). IsHeld c.self.inside.held r) (sym (ap (λ (f : Framing g.row.S.Denot). f.reader) c.in_err-step.ensures.err)) c.self.invariant.held)
     c.self.invariant

@@ -12,7 +12,7 @@ use Rattle.proto_conn.proofs.connection.Connection.settle.Goals as goal
 pub invariant_of-self : goal.invariant_of-self
 invariant_of-self g c =
     sound_roomy c.self.inside.protocol.session _ _ _ _ _ _ _ _ _ _ _ c.self.inside.held _ c.self.inside.framed.reader _ _ _
-    c.make_room.ensures.session c.make_room.ensures.replies c.make_room.ensures.unsolicited c.self.invariant.held c.self.invariant
+    c.make_room.ensures.session c.make_room.ensures.streams c.make_room.ensures.replies c.make_room.ensures.unsolicited c.self.invariant.held c.self.invariant
 
 pub returns-in_err-make_room-clause-err : goal.returns-in_err-make_room-clause-err
 returns-in_err-make_room-clause-err g c =
@@ -37,7 +37,7 @@ invariant_of-self-2 g c =
     let len = c.len-count.ensures in
     let own = c.in_ok-messages.messages.ok in
     sound_more c.self.inside.protocol.session c.make_room.new.protocol.session _ _ _ _ _ _ _ _ _ _ _ c.self.inside.held _
-    c.self.inside.framed.reader _ _ c.self.inside.tallies _ (length c.in_ok-messages.messages.items) c.make_room.ensures.session
+    c.self.inside.framed.reader _ _ c.self.inside.tallies _ (length c.in_ok-messages.messages.items) c.make_room.ensures.session c.make_room.ensures.streams
     (omega (arith, c.in_ok-make_room.ensures.more_replies, len, own)) (omega (arith, c.in_ok-make_room.ensures.more_unsolicited, len, own)) tt
     c.take_all.ensures.last c.take_all.ensures.responses c.take_all.ensures.incoming c.take_all.ensures.outgoing c.take_all.ensures.given c.take_all.ensures.tallied
     c.self.invariant
