@@ -17,9 +17,6 @@ use transcript_io::{Read, Sink, Source};
 // How many bytes are read at once.
 const READ_AT_ONCE: usize = 16_384;
 
-// How many bytes of text wait before they are written.
-const FLUSH_AT: usize = 65_536;
-
 /// The records so far, the unfinished line, the count of bytes taken, and the text of records that isn't written yet.
 #[derive(Drop)]
 pub struct RunState {
@@ -120,8 +117,8 @@ impl RunState {
         written
     }
 
-    // Writes the text that waits, where there is much of it.
-    fn flush_if_full<K: Sink>(&mut self, out: &mut K) -> Result<(), RunFault>
+    // Writes the text that waits, where there is any: a sink is not asked to write nothing.
+    fn flush_waiting<K: Sink>(&mut self, out: &mut K) -> Result<(), RunFault>
         ensures ok { OnOk result
             (Gained (K.written out.old) (K.written out.new) self.old.text.items self.new.text.items) }
         ensures part { OnErr result (GainedSome (K.written out.old) (K.written out.new) self.old.text.items) }
@@ -131,13 +128,13 @@ impl RunState {
         ensures only { IfErr result IsOutputFault }
         ensures later { K.faults out.old ≤ K.faults out.new }
     {
-        if self.text.len() < FLUSH_AT {
+        if self.text.is_empty() {
             return Ok(());
         }
         self.flush(out)
     }
 
-    /// Reads the source to its end, and writes most of the text.
+    /// Reads the source to its end. The text of the lines of a piece is written before the next one is read.
     pub fn read_all<S: Source, K: Sink>(
         &mut self,
         input: &mut S,
@@ -165,7 +162,7 @@ impl RunState {
                 Read::End => return Ok(()),
                 Read::Got(count) => self.feed(&piece[..count])?,
             }
-            self.flush_if_full(out)?;
+            self.flush_waiting(out)?;
         }
     }
 }

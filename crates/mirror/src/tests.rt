@@ -195,8 +195,9 @@ fn faults_of_source_and_sink_are_reported(rt: HostRuntime) -> Result<(), Fail> {
         assert_eq!(rt; out.bytes(), text.as_bytes(), "at {call}");
     }
 
-    // Its text has 75 bytes, and the last line is written by itself.
-    let writes = [(1, 8, 0), (2, 8, 40), (3, 8, 75), (4, 0, 89)];
+    // Its text has 66 bytes and 9, the first written before the rest of the dump is read, and the last
+    // line by itself.
+    let writes = [(1, 8, 0), (2, 8, 40), (3, 8, 66), (4, 8, 75), (5, 0, 89)];
     for (call, status, count) in writes {
         let mut input = source(alloc, DUMP, 40, &[])?;
         let mut out = sink(alloc, 40, &[call])?;

@@ -35,46 +35,46 @@ pub loop-count-preserved : goal.loop-count-preserved
 loop-count-preserved g c =
     let i = c.loop-count.invariant in
     let fed = c.in_ok-feed-in-Got.ensures in
-    let same = c.flush_if_full.ensures.same in
+    let same = c.flush_waiting.ensures.same in
     let settings = c.feed.ensures.settings ∙ i.settings in
     let piece = take c.in-Got.count c.read.new.into in
     let limit = subst (λ q. c.feed.new.self.taken ≤ q.limit) settings fed.limit in
     let running = running_more _ _ _ _ _ _ c.loop-count.self c.feed.new.self piece i.running c.in-Got.ensures.read.2
     fed.step fed.taken limit in
     record {
-      steady = counts_same c.feed.new.self c.flush_if_full.new.self fed.steady same;
+      steady = counts_same c.feed.new.self c.flush_waiting.new.self fed.steady same;
       settings = ap (λ r. r.settings) same.runner ∙ settings;
-      running = running_gains _ _ _ _ _ _ c.feed.new.self c.flush_if_full.new.self running c.in_ok-flush_if_full.ensures.ok same;
+      running = running_gains _ _ _ _ _ _ c.feed.new.self c.flush_waiting.new.self running c.in_ok-flush_waiting.ensures.ok same;
       faults_in = omega (arith, i.faults_in, c.read.ensures.later);
-      faults_out = omega (arith, i.faults_out, c.flush_if_full.ensures.later);
+      faults_out = omega (arith, i.faults_out, c.flush_waiting.ensures.later);
     }
 
-pub returns-in_err-flush_if_full-clause-stands : goal.returns-in_err-flush_if_full-clause-stands
-returns-in_err-flush_if_full-clause-stands g c =
+pub returns-in_err-flush_waiting-clause-stands : goal.returns-in_err-flush_waiting-clause-stands
+returns-in_err-flush_waiting-clause-stands g c =
     let i = c.loop-count.invariant in
     let fed = c.in_ok-feed-in-Got.ensures in
-    let e = c.in_err-flush_if_full in
+    let e = c.in_err-flush_waiting in
     let settings = c.feed.ensures.settings ∙ i.settings in
     let piece = take c.in-Got.count c.read.new.into in
     let limit = subst (λ q. c.feed.new.self.taken ≤ q.limit) settings fed.limit in
     let running = running_more _ _ _ _ _ _ c.loop-count.self c.feed.new.self piece i.running c.in-Got.ensures.read.2
     fed.step fed.taken limit in
     let ended = ended_writing c.args.self.now.runner.settings _ _ _ _ _ c.feed.new.self.text.items
-    c.flush_if_full.new.self.text.items e.field-0.0 (stands _ _ _ _ _ c.feed.new.self running) e.ensures.part
+    c.flush_waiting.new.self.text.items e.field-0.0 (stands _ _ _ _ _ c.feed.new.self running) e.ensures.part
     e.ensures.emptied e.ensures.only in
     ended.stands
 
-pub returns-in_err-flush_if_full-clause-ended : goal.returns-in_err-flush_if_full-clause-ended
-returns-in_err-flush_if_full-clause-ended g c =
+pub returns-in_err-flush_waiting-clause-ended : goal.returns-in_err-flush_waiting-clause-ended
+returns-in_err-flush_waiting-clause-ended g c =
     let i = c.loop-count.invariant in
     let fed = c.in_ok-feed-in-Got.ensures in
-    let e = c.in_err-flush_if_full in
+    let e = c.in_err-flush_waiting in
     let settings = c.feed.ensures.settings ∙ i.settings in
     let piece = take c.in-Got.count c.read.new.into in
     let limit = subst (λ q. c.feed.new.self.taken ≤ q.limit) settings fed.limit in
     let running = running_more _ _ _ _ _ _ c.loop-count.self c.feed.new.self piece i.running c.in-Got.ensures.read.2
     fed.step fed.taken limit in
-    err_from c.from_residual-in_err-flush_if_full.result e.field-0.0 _ c.from_residual-in_err-flush_if_full.ensures.1
+    err_from c.from_residual-in_err-flush_waiting.result e.field-0.0 _ c.from_residual-in_err-flush_waiting.ensures.1
     (ended_writing c.args.self.now.runner.settings _ _ _ _ _ c.feed.new.self.text.items
-    c.flush_if_full.new.self.text.items e.field-0.0 (stands _ _ _ _ _ c.feed.new.self running) e.ensures.part
+    c.flush_waiting.new.self.text.items e.field-0.0 (stands _ _ _ _ _ c.feed.new.self running) e.ensures.part
     e.ensures.emptied e.ensures.only)
