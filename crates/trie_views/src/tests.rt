@@ -1,7 +1,11 @@
-//! The calls of views: worked look-ups, operations beside the same over plain lists, nested views, and prefixes of all widths.
+//! The calls of views: worked look-ups, operations beside the same over plain lists, nested views, and prefixes of
+//! all widths.
+
+ghost use Rattle.std.specs.Prelude.{◌≡◌, leb};
 
 use crate::{
-    CloneViewPairs, CoveringUnionItem, PrefixMap, Steps, ViewCalls, ViewPairs, walk_gives_the_list,
+    CloneViewPairs, CoveringUnionItem, FilterCalls, PrefixMap, Steps, TrieView, ViewCalls,
+    ViewPairs, walk_gives_the_list,
 };
 use nl_core::NoMemory;
 use std::alloc::Global;
@@ -185,6 +189,73 @@ fn three_views_nest(rt: HostRuntime) -> Result<(), Fail> {
         assert_eq!(rt; item.right().map(|item| **item), item_in(&right, *prefix));
         assert_eq!(rt; item_in(&lacked, *prefix), None);
         assert_eq!(rt; longest_in(&outside, *prefix), None);
+    }
+    Ok(())
+}
+
+/// Whether an item is at least 7.
+fn is_high(_: Address, item: &&u64) -> bool
+    ensures { result ≡ leb 7 item.now.now }
+{
+    **item >= 7
+}
+
+/// Whether an item is at most 14.
+fn is_low(_: Address, item: &&u64) -> bool
+    ensures { result ≡ leb item.now.now 14 }
+{
+    **item <= 14
+}
+
+/// The entries of a list that lie in a prefix, with items from 7 on.
+fn high_inside(
+    alloc: Global,
+    list: &[(Address, u64)],
+    place: Address,
+    last: u64,
+) -> Result<Vec<(Address, u64)>, NoMemory> {
+    let mut inside = Vec::new(alloc);
+    for (prefix, item) in list {
+        if contains(place, *prefix) && *item >= 7 && *item <= last {
+            inside.push((*prefix, *item))?;
+        }
+    }
+    Ok(inside)
+}
+
+/// The entries of a view that lie in a prefix.
+fn entries_inside<'a, V: TrieView<'a, P = Address, T = &'a u64>>(
+    alloc: Global,
+    view: V,
+    place: Address,
+) -> Result<Vec<(Address, u64)>, NoMemory>
+    requires { V.valid view }
+{
+    let mut inside = Vec::new(alloc);
+    if place.1 <= 32 {
+        if let Some(part) = view.find(&place)? {
+            for (prefix, item) in walk_gives_the_list(alloc, part)?.iter() {
+                inside.push((*prefix, **item))?;
+            }
+        }
+    }
+    Ok(inside)
+}
+
+#[test]
+fn narrowed_filters_are_those_of_lists(rt: HostRuntime) -> Result<(), Fail> {
+    let alloc = rt.alloc();
+    for round in 0..ROUNDS {
+        let map = map_of_seed(alloc, round)?;
+        let list = list_of(alloc, &map)?;
+        for place in [(0, 0), (0xC000_0000, 2), (0x8000_0000, 6)] {
+            let once = map.view().filter(alloc, is_high)?;
+            let expected = high_inside(alloc, &list, place, u64::MAX)?;
+            assert!(rt; entries_inside(alloc, once, place)? == expected);
+            let twice = map.view().filter(alloc, is_high)?.filter(alloc, is_low)?;
+            let expected = high_inside(alloc, &list, place, 14)?;
+            assert!(rt; entries_inside(alloc, twice, place)? == expected);
+        }
     }
     Ok(())
 }
