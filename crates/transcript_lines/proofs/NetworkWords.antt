@@ -1,5 +1,5 @@
 -- What the words of addresses and networks are, and what they are not.
-use Rattle.std.proofs.Common.{◌≡◌, ◌≢◌, ◌==◌, ◌<◌, ◌^◌, ℕ, true, false, List, [], ◌∷◌, ◌++◌, length, get_or, flat_map, Option, Some, None, refl, sym, ◌∙◌, ap, arith}
+use Rattle.std.proofs.Common.{◌≡◌, ◌≢◌, ◌==◌, ◌*◌, ◌<◌, ◌^◌, ℕ, Bool, true, false, List, [], ◌∷◌, ◌++◌, length, get_or, flat_map, Option, Some, None, refl, sym, subst, ◌∙◌, ap, arith}
 use Rattle.std.specs.Fmt.{decimal}
 use Rattle.std.specs.Int.{bytes_high_first}
 use Rattle.std.specs.List.{AllByRecursion, slice_split}
@@ -16,11 +16,11 @@ use Rattle.session_model.specs.declared.network.Network.{Network}
 use Rattle.session_model.specs.declared.network.Network.TheVariants.{V4, V6}
 use Rattle.transcript_lines.specs.declared.network.Family.{Family}
 use Rattle.transcript_lines.specs.declared.network.Family.TheVariants as families
-use Rattle.transcript_lines.specs.Network.{AreOctetsOf, HasNoSlash, IsHostOf, IsNetworkAt, IsNetworkOf, count_in, word_of}
+use Rattle.transcript_lines.specs.Network.{AreOctetsOf, HasNoSlash, IsHostOf, IsNetworkAt, IsNetworkOf, SpellOctets, count_in, word_of}
 use Rattle.transcript_lines.proofs.Candidates.{bytes_back, bytes_of}
 use Rattle.transcript_lines.proofs.Decimals.{number_after, value_of}
-use Rattle.transcript_lines.proofs.HexDigits.{above_dash, digits_in}
-use Rattle.transcript_lines.specs.Digits.{AreDigits}
+use Rattle.transcript_lines.proofs.HexDigits.{above_dash, digits_in, twice}
+use Rattle.transcript_lines.specs.Digits.{AreDigits, ArePairs}
 use Rattle.transcript_lines.proofs.Octets.{octets_bytes, octets_injective, octets_length, octets_of_v4, octets_of_v6}
 
 -- ---- a slash
@@ -99,10 +99,39 @@ host_of_octets family digits octets None bytes is none = λ a host e.
     let same : digits ≡ digits_of a = cc in
     none a host own (sym (bytes_back octets bytes) ∙ ap bytes_of (sym is ∙ same) ∙ bytes_back (octets_of a) (octets_bytes a))
 
--- A word that spells no bytes spells no address.
-pub no_octets : (family digits : List ℕ) → ((bytes : List ℕ) → AreBytes bytes → digits ≢ hex_word bytes)
-    → (a : Address) → IsHost a → family ∷ digits ∷ [] ≢ address_words a
-no_octets family digits none a host e = let same : digits ≡ digits_of a = cc in none (octets_of a) (octets_bytes a) same
+-- Digits of another count spell no octets of this count.
+pub other_count : (digits octets : List ℕ) → 0 < length octets → length digits ≢ 2 * length octets → SpellOctets digits octets false
+other_count digits octets some none [] each same e = omega (arith, some, same)
+other_count digits octets some none (b ∷ bytes) each same e =
+    none (ap length e ∙ twice (b ∷ bytes) ∙ omega (arith, same))
+
+no_pairs : (digits bytes : List ℕ) → 0 < length bytes → (AreDigits digits → ⊥) → AreBytes bytes → digits ≢ hex_word bytes
+no_pairs digits [] some none each e = omega (arith, some)
+no_pairs digits (b ∷ bytes) some none each e = none (subst AreDigits (sym e) (digits_in (b ∷ bytes) each))
+
+-- Pairs of digits spell the octets that they are decoded to.
+pub pairs_spell : (digits octets : List ℕ) (ok : Bool) → 0 < length octets → ArePairs digits octets ok → SpellOctets digits octets ok
+pairs_spell digits [] true some pairs = absurd (omega (arith, some))
+pairs_spell digits (b ∷ octets) true some pairs = pairs
+pairs_spell digits octets false some none = λ bytes each same. no_pairs digits bytes (omega (arith, some, same)) none each
+
+-- Digits that don't spell a family's count of octets spell no address of the family.
+pub no_octets : (own : Family) (digits octets : List ℕ) → length octets ≡ count_in own → SpellOctets digits octets false
+    → (a : Address) → IsHost a → word_of own ∷ digits ∷ [] ≢ address_words a
+no_octets families.V4 digits octets count none (address.V4 n) host e =
+    let same : digits ≡ digits_of (address.V4 n) = cc in
+    none (octets_of (address.V4 n)) (octets_bytes (address.V4 n)) (octets_length (address.V4 n) ∙ sym count) same
+no_octets families.V4 digits octets count none (address.V6 n) host e =
+    let own : word_of families.V4 ≡ word_of families.V6 = cc in
+    let t : 52 ≡ 54 = ap (λ w. get_or w 0 0) own in
+    omega (arith, t)
+no_octets families.V6 digits octets count none (address.V4 n) host e =
+    let own : word_of families.V6 ≡ word_of families.V4 = cc in
+    let t : 54 ≡ 52 = ap (λ w. get_or w 0 0) own in
+    omega (arith, t)
+no_octets families.V6 digits octets count none (address.V6 n) host e =
+    let same : digits ≡ digits_of (address.V6 n) = cc in
+    none (octets_of (address.V6 n)) (octets_bytes (address.V6 n)) (octets_length (address.V6 n) ∙ sym count) same
 
 -- ---- networks
 

@@ -1,9 +1,11 @@
 -- Which address and which network words spell.
-use Rattle.std.specs.Prelude.{◌≡◌, ◌≢◌, ◌==◌, ℕ, false, List, [], ◌∷◌, codes, Option, Some, None}
+use Rattle.std.specs.Prelude.{◌≡◌, ◌≢◌, ◌==◌, ℕ, Bool, true, false, List, [], ◌∷◌, length, codes, Option, Some, None}
 use Rattle.std.specs.Borrow.{Bor}
 use Rattle.std.specs.List.{All}
 use Rattle.session_model.specs.declared.network.Address.{Address}
 use Rattle.session_model.specs.declared.network.Network.{Network}
+use Rattle.session_model.specs.Lines.{hex_word}
+use Rattle.session_model.specs.Transcript.{AreBytes}
 use Rattle.session_model.specs.Networks.{IsHost, IsNetwork, address_words, base_of, family_word, length_of, network_words, octets_of, slash}
 use Rattle.transcript_lines.specs.declared.network.Family.{Family}
 use Rattle.transcript_lines.specs.declared.network.Family.TheVariants.{V4, V6}
@@ -51,3 +53,8 @@ IsNetworkOf words None = (n : Network) → IsNetwork n → words ≢ network_wor
 abbrev pub IsNetworkAt : Address → ℕ → Option Network → Type 0
 IsNetworkAt base length (Some n) = IsNetwork n × (base ≡ base_of n) × (length ≡ length_of n)
 IsNetworkAt base length None = (n : Network) → IsNetwork n → base ≡ base_of n → length ≢ length_of n
+
+-- These octets are what the digits spell; or else the digits don't spell as many.
+abbrev pub SpellOctets : List ℕ → List ℕ → Bool → Type 0
+SpellOctets digits octets true = AreBytes octets × (digits ≡ hex_word octets)
+SpellOctets digits octets false = (bytes : List ℕ) → AreBytes bytes → length bytes ≡ length octets → digits ≢ hex_word bytes

@@ -146,9 +146,9 @@ fn record_of_words(alloc: Global, words: Words) -> Result<Option<Record>, NoMemo
         Some(Kind::Close) => Ok(words.next().is_none().then_some(Record::Close)),
         Some(Kind::Batch) => read_batch(alloc, words),
         Some(Kind::Resync) => Ok(words.next().is_none().then_some(Record::Resync)),
-        Some(Kind::Block) => Ok(read_network(alloc, words)?.map(Record::Block)),
-        Some(Kind::Unblock) => Ok(read_network(alloc, words)?.map(Record::Unblock)),
-        Some(Kind::Lookup) => Ok(read_host(alloc, words)?.map(Record::Lookup)),
+        Some(Kind::Block) => Ok(read_network(words).map(Record::Block)),
+        Some(Kind::Unblock) => Ok(read_network(words).map(Record::Unblock)),
+        Some(Kind::Lookup) => Ok(read_host(words).map(Record::Lookup)),
         None => Ok(None),
     }
 }

@@ -1,18 +1,16 @@
 //! The address, or the network, that words of a line spell.
-ghost use Rattle.std.specs.Prelude.{◌≡◌, ◌∷◌, [], ◌<◌, ◌≤◌, ◌^◌, IfOk, length};
+ghost use Rattle.std.specs.Prelude.{◌≡◌, ◌∷◌, [], ◌<◌, ◌≤◌, ◌^◌, length};
 ghost use Rattle.std.specs.Int.{bytes_high_first};
 ghost use Rattle.session_model.specs.Networks.{IsHost};
-ghost use Rattle.transcript_lines.specs.Network.{IsFamilyOf, AreTwoWords, count_in, word_of};
+ghost use Rattle.transcript_lines.specs.Network.{IsFamilyOf, AreTwoWords, SpellOctets, count_in, word_of};
 ghost use Rattle.transcript_lines.specs.Network.{AreOctetsOf, IsHostOf, IsNetworkOf, IsNetworkAt};
 ghost use Rattle.transcript_lines.specs.Words.{words_left};
 
-use crate::bytes::read_bytes;
 use crate::cut::cut_at;
+use crate::digits::decode_pairs;
 use crate::number::read_number;
 use crate::words::Words;
-use nl_core::NoMemory;
 use session_model::{Address, Network};
-use std::alloc::Global;
 
 // The family of an address.
 #[derive(Clone, Copy, PartialEq, Eq)]
@@ -81,16 +79,36 @@ fn host_at(family: Family, octets: &[u8]) -> Option<Address>
     }
 }
 
-// The address that a word of a family and one of digits spell.
-fn spelled_host(alloc: Global, family: &[u8], digits: &[u8]) -> Result<Option<Address>, NoMemory>
-    ensures { IfOk result (IsHostOf (family.now ∷ digits.now ∷ [])) }
+// Writes the octets that digits spell over a row of as many, and says whether they spell so many.
+fn read_octets(digits: &[u8], octets: &mut [u8]) -> bool
+    requires { 0 < length octets.old }
+    ensures { SpellOctets digits.now octets.new result }
 {
-    let Some(family) = family_of(family) else {
-        return Ok(None);
-    };
-    match read_bytes(alloc, digits)? {
-        Some(octets) => Ok(host_at(family, octets.as_slice())),
-        None => Ok(None),
+    if digits.len() != 2 * octets.len() {
+        return false;
+    }
+    decode_pairs(digits, octets)
+}
+
+// The address of the family that digits spell; its octets are written over a row.
+fn host_of_digits(family: Family, digits: &[u8], octets: &mut [u8]) -> Option<Address>
+    requires { length octets.old ≡ count_in family }
+    ensures { IsHostOf (word_of family ∷ digits.now ∷ []) result }
+{
+    if read_octets(digits, octets) {
+        host_at(family, octets)
+    } else {
+        None
+    }
+}
+
+// The address that a word of a family and one of digits spell.
+fn spelled_host(family: &[u8], digits: &[u8]) -> Option<Address>
+    ensures { IsHostOf (family.now ∷ digits.now ∷ []) result }
+{
+    match family_of(family)? {
+        Family::V4 => host_of_digits(Family::V4, digits, &mut [0; 4]),
+        Family::V6 => host_of_digits(Family::V6, digits, &mut [0; 16]),
     }
 }
 
@@ -107,30 +125,20 @@ fn network_at(base: Address, length: u32) -> Option<Network>
 }
 
 // The address that the words that are left spell.
-pub(crate) fn read_host(alloc: Global, words: Words) -> Result<Option<Address>, NoMemory>
-    ensures { IfOk result (IsHostOf (words_left words.entry)) }
+pub(crate) fn read_host(words: Words) -> Option<Address>
+    ensures { IsHostOf (words_left words.entry) result }
 {
-    let Some((family, digits)) = two_words(words) else {
-        return Ok(None);
-    };
-    spelled_host(alloc, family, digits)
+    let (family, digits) = two_words(words)?;
+    spelled_host(family, digits)
 }
 
 // The network that the words that are left spell.
-pub(crate) fn read_network(alloc: Global, words: Words) -> Result<Option<Network>, NoMemory>
-    ensures { IfOk result (IsNetworkOf (words_left words.entry)) }
+pub(crate) fn read_network(words: Words) -> Option<Network>
+    ensures { IsNetworkOf (words_left words.entry) result }
 {
-    let Some((family, word)) = two_words(words) else {
-        return Ok(None);
-    };
-    let Some((digits, length)) = cut_at(word, b'/') else {
-        return Ok(None);
-    };
-    let Some(length) = read_number(length) else {
-        return Ok(None);
-    };
-    match spelled_host(alloc, family, digits)? {
-        Some(base) => Ok(network_at(base, length)),
-        None => Ok(None),
-    }
+    let (family, word) = two_words(words)?;
+    let (digits, length) = cut_at(word, b'/')?;
+    let length = read_number(length)?;
+    let base = spelled_host(family, digits)?;
+    network_at(base, length)
 }
