@@ -17,7 +17,7 @@ ghost use Rattle.view_model.proofs.CoveringItems.{covering_onto, covering_view_l
 use crate::common::common_len;
 use crate::longest::longest_here;
 use crate::side::{side_child, side_clone, side_frugal, side_move, side_take};
-use crate::union::{either_children, either_data, join};
+use crate::union::{either_children, either_data, join, without};
 use nl_core::NoMemory;
 use std::marker::PhantomData;
 use trie_map::{
@@ -150,7 +150,7 @@ where
         let depth = self.len / 5 * 5;
         let left = side_take(&mut self.left, depth, bit)?;
         let right = side_take(&mut self.right, depth, bit)?;
-        self.data_bitmap = either_data(&self.left, &self.right, depth);
+        self.data_bitmap = without(self.data_bitmap, bit);
         let prefix: L::P = reconstruct_prefix(depth, self.key, bit);
         let key = prefix.number();
         let len = prefix.length() as u32;
@@ -177,7 +177,7 @@ where
         let right = side_child(&mut self.right, depth, bit, steps)?;
         let left_all = side_clone(&left)?;
         let right_all = side_clone(&right)?;
-        self.child_bitmap = either_children(&self.left, &self.right, depth);
+        self.child_bitmap = without(self.child_bitmap, bit);
         Ok(CoveringUnionView {
             data_bitmap: either_data(&left, &right, depth + 5),
             child_bitmap: either_children(&left, &right, depth + 5),

@@ -1,7 +1,8 @@
 //! The pairs of either view.
 
-ghost use Rattle.std.specs.Prelude.{◌≡◌, ℕ, ◌+◌, ◌≤◌};
+ghost use Rattle.std.specs.Prelude.{◌≡◌, ℕ, ◌+◌, ◌<◌, ◌≤◌};
 ghost use Rattle.trie_model.specs.Nets.{Net, IsNet, net_of};
+ghost use Rattle.trie_model.specs.Tries.{Cleared};
 ghost use Rattle.trie_model.specs.Views.{depth_at};
 ghost use Rattle.trie_model.proofs.Places.{show_equal};
 ghost use Rattle.view_model.specs.Sides.{HasRoomForChild, IsInnerSide, IsUsableSide};
@@ -57,6 +58,14 @@ pub(crate) fn either_children<'a, L: TrieView<'a>, R: TrieView<'a, P = L::P>>(
     ensures { result ≡ either_child_bits L.told R.told L.P.Number.width depth left.now right.now }
 {
     side_children(left, depth) | side_children(right, depth)
+}
+
+/// The bits that are left after one was taken.
+pub(crate) fn without(bitmap: u32, bit: u32) -> u32
+    requires { bit < 32 }
+    ensures { Cleared bit bitmap result }
+{
+    bitmap & !(1 << bit)
 }
 
 /// The item of either side, or of both.
@@ -121,7 +130,7 @@ impl<'a, L: TrieView<'a>, R: TrieView<'a, P = L::P>> TrieView<'a> for UnionView<
         let depth = self.len / 5 * 5;
         let left = side_take(&mut self.left, depth, bit)?;
         let right = side_take(&mut self.right, depth, bit)?;
-        self.data_bitmap = either_data(&self.left, &self.right, depth);
+        self.data_bitmap = without(self.data_bitmap, bit);
         Ok(join(left, right))
     }
 
@@ -131,7 +140,7 @@ impl<'a, L: TrieView<'a>, R: TrieView<'a, P = L::P>> TrieView<'a> for UnionView<
         let key = extend_repr(self.key, depth, bit);
         let left = side_child(&mut self.left, depth, bit, steps)?;
         let right = side_child(&mut self.right, depth, bit, steps)?;
-        self.child_bitmap = either_children(&self.left, &self.right, depth);
+        self.child_bitmap = without(self.child_bitmap, bit);
         Ok(UnionView {
             data_bitmap: either_data(&left, &right, depth + 5),
             child_bitmap: either_children(&left, &right, depth + 5),

@@ -1,6 +1,7 @@
 use Rattle.std.proofs.Common.{rules}
 use Rattle.std.proofs.Common.{◌≡◌, ◌∙◌, ℕ, ◌≤◌, arith, sym, ap, subst, refl}
 use Rattle.trie_model.specs.Nets.{Net, IsNet, masked}
+use Rattle.trie_model.specs.Tries.{Cleared}
 use Rattle.trie_model.specs.Views.{data_net, depth_at}
 use Rattle.trie_model.proofs.Places.{bit_below, covers_way, depth_le, level_le}
 use Rattle.view_model.specs.CoveringUnion.{InNode, WithLongest, pair_value}
@@ -12,6 +13,7 @@ use Rattle.view_model.proofs.CoveringUnionMade.{covering_item}
 use Rattle.view_model.specs.CoveringUnion.{WithPrefixes, covering_value}
 use Rattle.view_model.proofs.CoveringItems.{prefixes_of}
 use Rattle.view_model.proofs.ThroughLaws.{through_took}
+use Rattle.trie_sets.proofs.KeptBits.{data_left}
 use Rattle.trie_sets.proofs.covering_union.CoveringUnionViewPTTTrieView.get_data.Goals as goal
 
 pub side_take-requires : goal.side_take-requires
@@ -75,18 +77,15 @@ number-key-requires g c =
     let there = base.pairs (data_net w place c.args.bit) has.0 has.1 in
     subst (λ n. n.len ≤ w) (sym c.reconstruct_prefix-prefix.ensures.net) there.0.len_fits
 
-pub either_data-self-requires : goal.either_data-self-requires
-either_data-self-requires g c κs =
+pub without-self-requires : goal.without-self-requires
+without-self-requires g c =
     let w : ℕ = g.L.P.Number.KeyBits.width in
     let place : Net = record { bits = g.L.P.Number.KeyBits.number c.args.self.now.key; len = c.args.self.now.len } in
-    let took_l = c.in_ok-left.ensures.took place refl c.requires.usable.1 in
-    let took_r = c.in_ok-right.ensures.took place refl c.requires.usable.2 in (
-      (refl, tt),
-      (
-        in_valid w g.L.TrieView.valid g.L.TrieView.told place c.side_take.new.side took_l.inside,
-        in_valid w g.R.TrieView.valid g.R.TrieView.told place c.side_take-2.new.side took_r.inside,
-      ),
-    )
+    let base = union_laws w g.L.TrieView.valid g.L.TrieView.told (g.met.L.TrieView c.lifetimes (search rules)).laws g.R.TrieView.valid
+    g.R.TrieView.told (g.met.R.TrieView c.lifetimes (search rules)).laws place c.args.self.now.left c.args.self.now.right c.requires.usable.0
+    c.requires.usable.1 c.requires.usable.2 in
+    let small = bit_below 31 _ c.args.bit base.data_fit c.requires.set in
+    omega (arith, small)
 
 pub join-requires : goal.join-requires
 join-requires g c =
@@ -159,8 +158,16 @@ returns-clause-usable g c =
     let place : Net = record { bits = g.L.P.Number.KeyBits.number c.args.self.now.key; len = c.args.self.now.len } in
     let took_l = c.in_ok-left.ensures.took place refl c.requires.usable.1 in
     let took_r = c.in_ok-right.ensures.took place refl c.requires.usable.2 in
+    let base = union_laws w g.L.TrieView.valid g.L.TrieView.told (g.met.L.TrieView c.lifetimes (search rules)).laws g.R.TrieView.valid
+    g.R.TrieView.told (g.met.R.TrieView c.lifetimes (search rules)).laws place c.args.self.now.left c.args.self.now.right c.requires.usable.0
+    c.requires.usable.1 c.requires.usable.2 in
+    let after = union_laws w g.L.TrieView.valid g.L.TrieView.told (g.met.L.TrieView c.lifetimes (search rules)).laws g.R.TrieView.valid
+    g.R.TrieView.told (g.met.R.TrieView c.lifetimes (search rules)).laws place c.side_take.new.side c.side_take-2.new.side c.requires.usable.0
+    took_l.inside took_r.inside in
     let took = union_took w c.args.bit g.L.TrieView.valid g.L.TrieView.told g.L.TrieView.item g.R.TrieView.valid g.R.TrieView.told g.R.TrieView.item
-    place c.args.self.now.left c.side_take.new.side c.args.self.now.right c.side_take-2.new.side c.in_ok-left.left c.in_ok-right.right took_l took_r in (
+    place c.args.self.now.left c.side_take.new.side c.args.self.now.right c.side_take-2.new.side c.in_ok-left.left c.in_ok-right.right took_l took_r in
+    let kept = data_left w c.args.bit _ _ _ base after took c.requires.set
+    (subst (λ m. Cleared c.args.bit m c.without-self.result) c.requires.usable.7 c.without-self.ensures) in (
       c.requires.usable.0,
       took_l.inside,
       took_r.inside,
@@ -168,7 +175,7 @@ returns-clause-usable g c =
       c.requires.usable.4,
       c.requires.usable.5,
       c.requires.usable.6,
-      c.either_data-self.ensures,
+      kept,
       c.requires.usable.8 ∙ sym took.child_bits,
     )
 

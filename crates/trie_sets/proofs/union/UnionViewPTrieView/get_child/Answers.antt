@@ -1,6 +1,7 @@
 use Rattle.std.proofs.Common.{rules}
 use Rattle.std.proofs.Common.{◌≡◌, ◌∙◌, ℕ, ◌+◌, ◌*◌, ◌/◌, sym, ap, subst, refl}
 use Rattle.trie_model.specs.Nets.{Net, IsNet}
+use Rattle.trie_model.specs.Tries.{Cleared}
 use Rattle.trie_model.specs.Views.{IsChild, child_net}
 use Rattle.trie_model.proofs.Places.{bit_below, depth_below}
 use Rattle.trie_model.proofs.NodeLaws.{child_is_net}
@@ -8,6 +9,7 @@ use Rattle.view_model.specs.Sides.{IsInnerSide}
 use Rattle.view_model.specs.Union.{either_child_bits, either_data_bits, union_told}
 use Rattle.view_model.proofs.SideLaws.{in_valid, side_in_ok, side_room, side_valid}
 use Rattle.view_model.proofs.UnionLaws.{union_laws, union_child, union_took_child}
+use Rattle.trie_sets.proofs.KeptBits.{children_left}
 use Rattle.trie_sets.proofs.union.UnionViewPTrieView.get_child.Goals as goal
 
 pub extend_repr-key-requires-clause-depth : goal.extend_repr-key-requires-clause-depth
@@ -56,28 +58,14 @@ side_child-requires-2 g c κs =
       ),
     )
 
-pub either_children-self-requires : goal.either_children-self-requires
-either_children-self-requires g c κs =
+pub without-self-requires : goal.without-self-requires
+without-self-requires g c =
     let w : ℕ = g.L.P.Number.KeyBits.width in
     let place : Net = record { bits = g.L.P.Number.KeyBits.number c.args.self.now.key; len = c.args.self.now.len } in
-    let law_l = (g.met.L.TrieView c.lifetimes (search rules)).laws in
-    let law_r = (g.met.R.TrieView c.lifetimes (search rules)).laws in
-    let split_l = c.in_ok-left.ensures.split place refl
-    (side_in_ok w g.L.TrieView.valid g.L.TrieView.told law_l place c.args.self.now.left c.requires.usable.1) in
-    let split_r = c.in_ok-right.ensures.split place refl
-    (side_in_ok w g.R.TrieView.valid g.R.TrieView.told law_r place c.args.self.now.right c.requires.usable.2) in (
-      (refl, tt),
-      (
-        side_valid w g.L.TrieView.valid g.L.TrieView.told place c.side_child.new.side split_l.rest_ok,
-        (
-          side_valid w g.R.TrieView.valid g.R.TrieView.told place c.side_child-2.new.side split_r.rest_ok,
-          (
-            side_room w g.L.TrieView.valid g.L.TrieView.told law_l place _ c.side_child.new.side refl split_l.rest_ok,
-            side_room w g.R.TrieView.valid g.R.TrieView.told law_r place _ c.side_child-2.new.side refl split_r.rest_ok,
-          ),
-        ),
-      ),
-    )
+    let base = union_laws w g.L.TrieView.valid g.L.TrieView.told (g.met.L.TrieView c.lifetimes (search rules)).laws g.R.TrieView.valid
+    g.R.TrieView.told (g.met.R.TrieView c.lifetimes (search rules)).laws place c.args.self.now.left c.args.self.now.right c.requires.usable.0
+    c.requires.usable.1 c.requires.usable.2 in
+    bit_below 32 _ c.args.bit base.children_fit c.requires.set
 
 pub either_data-requires : goal.either_data-requires
 either_data-requires g c κs =
@@ -167,13 +155,18 @@ returns-clause-usable g c =
     let split_r = c.in_ok-right.ensures.split place refl
     (side_in_ok w g.R.TrieView.valid g.R.TrieView.told (g.met.R.TrieView c.lifetimes (search rules)).laws place c.args.self.now.right
     c.requires.usable.2) in
+    let base = union_laws w g.L.TrieView.valid g.L.TrieView.told (g.met.L.TrieView c.lifetimes (search rules)).laws g.R.TrieView.valid
+    g.R.TrieView.told (g.met.R.TrieView c.lifetimes (search rules)).laws place c.args.self.now.left c.args.self.now.right c.requires.usable.0
+    c.requires.usable.1 c.requires.usable.2 in
     let took = union_took_child w c.args.bit g.L.TrieView.valid g.L.TrieView.told g.R.TrieView.valid g.R.TrieView.told place c.args.self.now.left
-    c.in_ok-left.left c.side_child.new.side c.args.self.now.right c.in_ok-right.right c.side_child-2.new.side split_l split_r in (
+    c.in_ok-left.left c.side_child.new.side c.args.self.now.right c.in_ok-right.right c.side_child-2.new.side split_l split_r in
+    let kept = children_left w c.args.bit _ _ _ base took
+    (subst (λ m. Cleared c.args.bit m c.without-self.result) c.requires.usable.4 c.without-self.ensures) in (
       c.requires.usable.0,
       split_l.rest_in c.requires.usable.1,
       split_r.rest_in c.requires.usable.2,
       c.requires.usable.3 ∙ sym took.data_bits,
-      c.either_children-self.ensures,
+      kept,
     )
 
 pub returns-clause-rest : goal.returns-clause-rest
