@@ -1,6 +1,5 @@
--- How a run goes on and ends.
-use Rattle.std.proofs.Common.{◌≡◌, ◌+◌, ◌-◌, ◌*◌, ◌<◌, ◌≤◌, inr, ℕ, List, [], ◌∷◌, ◌++◌, length, Option, Some, None, refl, sym, ◌∙◌, ap, subst, append_assoc, arith}
-use Rattle.std.specs.Prelude.{vec_len}
+-- How a run ends.
+use Rattle.std.proofs.Common.{◌≡◌, ◌+◌, ◌<◌, ◌≤◌, ◌↔◌, IsTrue, Bool, true, false, inr, ℕ, List, [], ◌∷◌, ◌++◌, length, Option, Some, None, refl, sym, ◌∙◌, ap, subst, append_assoc, arith}
 use Rattle.std.specs.Io.KnownBytes.{IsAtEnd}
 use Rattle.std.proofs.lemmas.List.{append-nil, length-append}
 use Rattle.session_model.specs.declared.settings.Settings.{Settings}
@@ -13,64 +12,15 @@ use Rattle.session_model.specs.Reported.{report_of}
 use Rattle.session_model.specs.Transcript.{lines_of}
 use Rattle.transcript_io.specs.Io.{Gained, GainedSome, between, with_back, with_front}
 use Rattle.transcript_io.proofs.Gains.{front_front, front_none, gained_all, gained_longer, gained_more, gained_none}
+use Rattle.transcript_lines.specs.LineDecoder.{Stands}
+use Rattle.transcript_lines.specs.declared.decoder.LineDecoder.{LineDecoder}
 use Rattle.mirror.specs.declared.run_state.RunState.{RunState}
 use Rattle.mirror.specs.declared.runner.Runner.{Runner}
-use Rattle.mirror.specs.Format.{IsEntry, format}
+use Rattle.mirror.specs.Format.{IsEntry, Message, format}
 use Rattle.mirror.specs.Faults.{IsInputFault, IsOutputFault}
-use Rattle.mirror.specs.Feeding.{CountsFitInput, FedPiece, HaltedBy, HaltsBy, HasRead, KeepsInput}
+use Rattle.mirror.specs.Feeding.{HaltedBy, HaltsBy}
 use Rattle.mirror.specs.Outcome.{Running, HasWritten, EndsBy, Ended, WasRun}
-use Rattle.mirror.specs.Runner.{Tracks, CountsInRange, AreAllTaken, drop_count, is_in_step_after, line_count, message_count, text_of}
-
--- ---- going on
-
--- A piece that is fed takes a run on.
-pub running_more : (s : Settings) (l0 l1 l2 w0 w1 : Option (List ℕ)) (p q : RunState) (piece : List ℕ)
-    → Running s (between l0 l1 w0 w1) p → l1 ≡ with_front piece l2 → FedPiece p piece q
-    → q.taken ≡ p.taken + length piece → q.taken ≤ s.limit → Running s (between l0 l2 w0 w1) q
-running_more s l0 l1 l2 w0 w1 p q piece h e fed up low =
-    let a = fed s h.bytes h.text h.reached in record {
-      bytes = h.bytes ++ piece;
-      text = h.text ++ a.0;
-      read = h.read ∙ ap (with_front h.bytes) e ∙ front_front h.bytes piece l2;
-      count = up ∙ ap (λ n. n + length piece) h.count ∙ sym (length-append h.bytes piece);
-      limit = low;
-      reached = a.1;
-      gained =
-          let longer = gained_longer w0 w1 h.text p.text.items a.0 h.gained in
-          subst (λ t. Gained w0 w1 (h.text ++ a.0) t) (sym a.2) longer;
-    }
-
--- Text that is written takes a run on.
-pub running_gains : (s : Settings) (l0 l1 w0 w1 w2 : Option (List ℕ)) (p q : RunState)
-    → Running s (between l0 l1 w0 w1) p → Gained w1 w2 p.text.items q.text.items → KeepsInput p q
-    → Running s (between l0 l1 w0 w2) q
-running_gains s l0 l1 w0 w1 w2 p q h g same = record {
-  bytes = h.bytes;
-  text = h.text;
-  read = h.read;
-  count = same.taken ∙ h.count;
-  limit = subst (λ n. n ≤ s.limit) (sym same.taken) h.limit;
-  reached =
-      let line = subst (λ k. HasRead s h.bytes p.runner k h.text) (sym (ap (λ v. v.items) same.line)) h.reached in
-      subst (λ r. HasRead s h.bytes r q.line.items h.text) (sym same.runner) line;
-  gained = gained_more w0 w1 w2 h.text p.text.items q.text.items h.gained g;
-}
-
--- Text that is written leaves the counts as they were.
-pub counts_same : (p q : RunState) → CountsFitInput p → KeepsInput p q → CountsFitInput q
-counts_same p q h same = record {
-  counted = subst CountsInRange (sym same.runner) h.counted;
-  lines = within line_count h.lines;
-  messages = within message_count h.messages;
-  dropped = within drop_count h.dropped;
-}
-  where
-    within : (count : Runner → ℕ) → 2 * count p.runner + vec_len p.line ≤ p.taken
-        → 2 * count q.runner + vec_len q.line ≤ q.taken
-    within count low =
-        let n : count q.runner ≡ count p.runner = ap count same.runner in
-        let k : vec_len q.line ≡ vec_len p.line = ap vec_len same.line in
-        omega (arith, n, k, low, same.taken)
+use Rattle.mirror.specs.Runner.{Tracks, AreAllTaken, is_in_step_after, text_of}
 
 -- ---- standing still
 
@@ -86,7 +36,7 @@ pub stands : (s : Settings) (l0 l1 w0 w1 : Option (List ℕ)) (p : RunState) →
     → HasWritten s (between l0 l1 w0 w1) p.text.items
 stands s l0 l1 w0 w1 p h = record {
   records = h.reached.records;
-  part = p.line.items;
+  part = h.reached.line;
   lost = [];
   taken = h.reached.tracks.taken;
   read = h.read ∙ ap (λ b. with_front b l1) h.reached.spelled;
@@ -184,7 +134,7 @@ pub ended_input : (s : Settings) (l0 l1 l2 w0 w1 : Option (List ℕ)) (p : RunSt
     → Running s (between l0 l1 w0 w1) p → l1 ≡ with_front piece l2 → HaltedBy p piece x e → IsInputFault e
     → Ended s (between l0 l2 w0 w1) x e
 ended_input s l0 l1 l2 w0 w1 p piece x e h read halted input =
-    let a = halted s h.bytes h.text h.reached h.count in
+    let a = halted s h.bytes h.text h.reached in
     let read_all = h.read ∙ ap (with_front h.bytes) read ∙ front_front h.bytes piece l2 in
     let longer = gained_longer w0 w1 h.text p.text.items a.0 h.gained in
     let waits = subst (λ t. Gained w0 w1 (h.text ++ a.0) t) (sym a.2 ∙ sym (append-nil x)) longer in
@@ -220,38 +170,41 @@ nothing_left : (l1 : Option (List ℕ)) (after : List ℕ) → IsAtEnd l1 → l1
 nothing_left None after h e = cc
 nothing_left (Some rest) after h e = let same : rest ≡ after = cc in sym same ∙ h
 
-at_line : (lines line bytes : List ℕ) (taken at : ℕ) → bytes ≡ lines ++ line → taken ≡ length bytes
-    → at ≡ taken - length line → at ≡ length lines
-at_line lines line bytes taken at e t a =
-    let l : length bytes ≡ length lines + length line = ap length e ∙ length-append lines line in omega (arith, l, t, a)
+-- A line that was begun isn't empty; e is the decoder that was asked.
+pub some_begun : (d e : LineDecoder Message) (b : Bool) → e ≡ d → ((taken : List ℕ) → Stands taken e → IsTrue b ↔ (0 < length taken))
+    → b ≡ true → (line : List ℕ) → Stands line d → 0 < length line
+some_begun d e b same told is line h = (told line (subst (Stands line) (sym same) h)).0 is
 
-within_limit : (lines line bytes : List ℕ) (taken limit : ℕ) → bytes ≡ lines ++ line → taken ≡ length bytes
-    → taken ≤ limit → length lines + length line ≤ limit
-within_limit lines line bytes taken limit e t low =
-    let l : length bytes ≡ length lines + length line = ap length e ∙ length-append lines line in omega (arith, l, t, low)
+-- One that wasn't begun is.
+pub none_begun : (d e : LineDecoder Message) (b : Bool) → e ≡ d → ((taken : List ℕ) → Stands taken e → IsTrue b ↔ (0 < length taken))
+    → b ≡ false → (line : List ℕ) → Stands line d → line ≡ []
+none_begun d e b same told is [] h = refl
+none_begun d e b same told is (x ∷ line) h =
+    let never : b ≡ true = (told (x ∷ line) (subst (Stands (x ∷ line)) (sym same) h)).1 (omega arith) in cc
 
 -- A run ends inside a line, at the end of its input.
 pub ended_unfinished : (s : Settings) (l0 l1 w0 w1 w2 : Option (List ℕ)) (p : RunState) (at : ℕ)
-    → Running s (between l0 l1 w0 w1) p → IsAtEnd l1 → w2 ≡ with_back w1 p.text.items → 0 < length p.line.items
-    → at ≡ p.taken - length p.line.items → Ended s (between l0 l1 w0 w2) [] (run.BadRecord at)
+    → Running s (between l0 l1 w0 w1) p → IsAtEnd l1 → w2 ≡ with_back w1 p.text.items
+    → ((line : List ℕ) → Stands line p.decoder → 0 < length line) → at ≡ p.line_start
+    → Ended s (between l0 l1 w0 w2) [] (run.BadRecord at)
 unfolding stands
 ended_unfinished s l0 l1 w0 w1 w2 p at h none all some a =
     let k = h.reached in
     let lines = lines_of k.records in
-    let line = p.line.items in
-    let unfinished : IsUnfinished format s IsEntry k.records line = record {
-      some = some;
+    let long : length h.bytes ≡ length lines + length k.line = ap length k.spelled ∙ length-append lines k.line in
+    let unfinished : IsUnfinished format s IsEntry k.records k.line = record {
+      some = some k.line k.decoded;
       part = k.part;
-      within = within_limit lines line h.bytes p.taken s.limit k.spelled h.count h.limit;
+      within = omega (arith, long, k.count, h.limit);
     } in
     ended_flushed s l0 l1 w0 w1 w2 p.text.items (run.BadRecord at) (record {
       stands = stands s l0 l1 w0 w1 p h;
       ends = (
         refl,
         λ after is.
-            let whole : line ++ after ≡ line = ap (λ z. line ++ z) (nothing_left l1 after none is) ∙ append-nil line in
-            caused s k.records line after (run.BadRecord at) k.tracks.taken (
-              at_line lines line h.bytes p.taken at k.spelled h.count a,
+            let whole : k.line ++ after ≡ k.line = ap (λ z. k.line ++ z) (nothing_left l1 after none is) ∙ append-nil k.line in
+            caused s k.records k.line after (run.BadRecord at) k.tracks.taken (
+              a ∙ k.start,
               inr (subst (λ left. IsUnfinished format s IsEntry k.records left) (sym whole) unfinished),
             ),
       );
@@ -259,27 +212,24 @@ ended_unfinished s l0 l1 w0 w1 w2 p at h none all some a =
 
 -- A run is done at the end of its input.
 pub was_run : (s : Settings) (l0 l1 w0 w1 w2 : Option (List ℕ)) (p : RunState) (report : Report)
-    → Running s (between l0 l1 w0 w1) p → w2 ≡ with_back w1 p.text.items → length p.line.items ≡ 0
+    → Running s (between l0 l1 w0 w1) p → w2 ≡ with_back w1 p.text.items
+    → ((line : List ℕ) → Stands line p.decoder → line ≡ [])
     → ((s : Settings) (rs : List Record) → Tracks s rs p.runner → report ≡ report_of format s (is_in_step_after s rs) rs)
     → WasRun s (between l0 l1 w0 w2) report
 was_run s l0 l1 w0 w1 w2 p report h all none told =
     let k = h.reached in
     let lines = lines_of k.records in
-    let whole : h.bytes ≡ lines = k.spelled ∙ ap (λ z. lines ++ z) (empty p.line.items none) ∙ append-nil lines in
+    let whole : h.bytes ≡ lines = k.spelled ∙ ap (λ z. lines ++ z) (none k.line k.decoded) ∙ append-nil lines in
     let gained = gained_all w1 w2 p.text.items [] all refl in
     let all_gained = gained_more w0 w1 w2 h.text p.text.items [] h.gained gained in
     record {
       input = h.bytes;
       records = k.records;
       read = h.read;
-      valid = record { spelled = whole; taken = k.tracks.taken; within = subst (λ n. n ≤ s.limit) h.count h.limit };
+      valid = record { spelled = whole; taken = k.tracks.taken; within = subst (λ n. n ≤ s.limit) k.count h.limit };
       wrote = all_gained.wrote ∙ ap (with_back w0) (sym (append-nil all_gained.shown) ∙ sym all_gained.parts ∙ k.told);
       reported = told s k.records k.tracks;
     }
-  where
-    empty : (xs : List ℕ) → length xs ≡ 0 → xs ≡ []
-    empty [] e = refl
-    empty (x ∷ xs) e = absurd (omega (arith, e))
 
 -- ---- under the settings that a run was given
 

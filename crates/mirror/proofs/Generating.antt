@@ -73,6 +73,6 @@ status_told n before after run.WriteFault h some = inr (inl refl, some)
 status_told n before after run.NoMemory h some = inr (inr refl, some)
 
 -- Where nothing is written, no byte of the line is.
-pub none_written : (n : ℕ) (w : Option (List ℕ)) (r : Result (Unit {0}) RunFault) → OnErr r (GainedSome w w (ok_line (generated_report n)))
-none_written n w (Ok u) = tt
+pub none_written : {X : Type 0} (n : ℕ) (w : Option (List ℕ)) (r : Result X RunFault) → OnErr r (GainedSome w w (ok_line (generated_report n)))
+none_written n w (Ok x) = tt
 none_written n w (Err e) = let line = ok_line (generated_report n) in record { rest = line; gained = gained_none w line }

@@ -1,94 +1,27 @@
 -- Where a run halts.
-use Rattle.std.proofs.Common.{◌≡◌, ◌≢◌, ◌+◌, ◌-◌, ◌<◌, inl, ℕ, Option, Some, List, [], ◌∷◌, ◌++◌, length, take, drop, get_or, refl, sym, ◌∙◌, ap, subst, append_assoc, arith}
-use Rattle.std.proofs.lemmas.List.{append-nil, length-append, drop_more, take_all, take-append-drop}
+use Rattle.std.proofs.Common.{◌≡◌, ◌≢◌, ◌+◌, ◌<◌, ◌≤◌, ◌==◌, inl, ℕ, zero, suc, Option, Some, List, [], ◌∷◌, ◌++◌, length, take, drop, false, refl, sym, ◌∙◌, ap, subst, append_assoc, arith}
+use Rattle.std.proofs.lemmas.List.{append-nil, length-append, take_all, take-append-drop}
 use Rattle.std.proofs.Math.Seq.{take-append_seam}
-use Rattle.std.proofs.lemmas.Grind.{common_steps}
 use Rattle.session_model.specs.declared.settings.Settings.{Settings}
 use Rattle.session_model.specs.declared.outcome.RunFault.{RunFault}
 use Rattle.session_model.specs.declared.outcome.RunFault.TheVariants as run
 use Rattle.session_model.specs.declared.transcript.Record.{Record}
-use Rattle.session_model.specs.Causes.{AfterClose, BeginsLine, BeginsRefused, IsNoRecord, OutOfNumbers, Refusal, TooLong, refusal}
-use Rattle.session_model.specs.Transcript.{record_line, lines_of}
+use Rattle.session_model.specs.Causes.{AfterClose, BeginsLine, BeginsRefused, OutOfNumbers, Refusal, TooLong, refusal}
+use Rattle.session_model.specs.Lines.{newline}
+use Rattle.session_model.specs.Transcript.{lines_of}
 use Rattle.transcript_io.specs.Io.{GainedSome}
-use Rattle.mirror.specs.declared.runner.Runner.{Runner}
-use Rattle.mirror.specs.Format.{IsEntry, format}
-use Rattle.mirror.specs.Feeding.{Feeds, Halting, Halts, HaltsBy, HasRead, newline}
+use Rattle.transcript_lines.specs.LineDecoder.{EndsLine, IsLineOf}
+use Rattle.transcript_lines.specs.declared.decoder.Line.{Line}
+use Rattle.transcript_lines.specs.declared.decoder.Line.TheVariants as told
+use Rattle.transcript_lines.specs.declared.decoder.LineDecoder.{LineDecoder}
+use Rattle.mirror.specs.declared.run_state.RunState.{RunState}
+use Rattle.mirror.specs.Format.{IsEntry, Message, format}
+use Rattle.mirror.specs.Feeding.{FedPiece, Halting, HaltedBy, HaltsBy, HasRead, RefusesLine, RefusesRecord}
 use Rattle.mirror.specs.Faults.{IsStepFault, IsInputFault}
 use Rattle.mirror.specs.Runner.{Fails, Tracks, added_text, events}
+use Rattle.mirror.proofs.Feeds.{FedUpTo, joined_part}
 
--- ---- at a whole line
-
-place : (lines line bytes : List ℕ) (taken at : ℕ) → bytes ≡ lines ++ line → taken ≡ length bytes
-    → at ≡ taken - length line → at ≡ length lines
-place lines line bytes taken at e t a =
-    let l : length bytes ≡ length lines + length line = ap length e ∙ length-append lines line in omega (arith, l, t, a)
-
-inside : (lines line bytes : List ℕ) (taken limit : ℕ) → bytes ≡ lines ++ line → taken ≡ length bytes
-    → taken < limit → length lines + length line < limit
-inside lines line bytes taken limit e t low =
-    let l : length bytes ≡ length lines + length line = ap length e ∙ length-append lines line in omega (arith, l, t, low)
-
--- A newline after an unfinished line.
-line_ended : (lines line bytes : List ℕ) → bytes ≡ lines ++ line → bytes ++ newline ≡ lines ++ (line ++ newline)
-line_ended lines line bytes e = ap (λ b. b ++ newline) e ∙ append_assoc lines line newline
-
-module _ (s : Settings) (bytes text line : List ℕ) (runner : Runner) (taken at : ℕ) (h : HasRead s bytes runner line text)
-    (t : taken ≡ length bytes) (a : at ≡ taken - length line) (low : taken < s.limit) where
-  begins_line : (after : List ℕ) → BeginsLine format s IsEntry h.records ((line ++ newline) ++ after) line
-  begins_line after = record {
-    rest = after;
-    spelled = append_assoc line newline after;
-    one = h.part;
-    within = inside (lines_of h.records) line bytes taken s.limit h.spelled t low;
-  }
-
-  at_place : at ≡ length (lines_of h.records)
-  at_place = place (lines_of h.records) line bytes taken at h.spelled t a
-
-  -- At a line that is no record.
-  pub bad_halt : IsNoRecord IsEntry line → Halting s (bytes ++ newline) text (run.BadRecord at)
-  bad_halt none = record {
-    records = h.records;
-    part = line ++ newline;
-    taken = h.tracks.taken;
-    spelled = line_ended (lines_of h.records) line bytes h.spelled;
-    told = h.told;
-    stops = λ after. (at_place, inl (record { line = line; begins = begins_line after; none = none }));
-  }
-
-  -- At a record that isn't taken, or where memory ran out.
-  pub refused_halt : (entry : Record) (w0 w1 : Option (List ℕ)) (e : RunFault) → line ++ newline ≡ record_line entry
-      → IsEntry entry → Fails s h.records entry at w0 w1 e → e ≢ run.WriteFault → Halting s (bytes ++ newline) text e
-  refused_halt entry w0 w1 e is built fails other = record {
-    records = h.records;
-    part = line ++ newline;
-    taken = h.tracks.taken;
-    spelled = line_ended (lines_of h.records) line bytes h.spelled;
-    told = h.told;
-    stops = λ after. by after e fails other;
-  }
-    where
-      begins : (after : List ℕ) (why : Refusal) → refusal format s (events s h.records) entry ≡ Some why
-          → BeginsRefused format s IsEntry h.records ((line ++ newline) ++ after) why
-      begins after why c = record {
-        entry = entry;
-        line = line;
-        is = is;
-        allowed = built;
-        cause = c;
-        begins = begins_line after;
-      }
-
-      by : (after : List ℕ) (e : RunFault) → Fails s h.records entry at w0 w1 e → e ≢ run.WriteFault
-          → HaltsBy s h.records ((line ++ newline) ++ after) e
-      by after (run.BadRecord place) f other = absurd f
-      by after (run.Closed place) f other = (f.0 ∙ at_place, begins after AfterClose f.1)
-      by after (run.SequenceExhausted place) f other = (f.0 ∙ at_place, begins after OutOfNumbers f.1)
-      by after (run.Unfit place) f other = (f.0 ∙ at_place, begins after TooLong f.1)
-      by after run.Limit f other = absurd f
-      by after run.ReadFault f other = absurd f
-      by after run.WriteFault f other = absurd (other refl)
-      by after run.NoMemory f other = tt
+-- ---- what a step that fails leaves
 
 -- What is told once is one.
 pub same_some : {a b : List ℕ} → ◌≡◌ {A = Option (List ℕ)} (Some a) (Some b) → a ≡ b
@@ -129,23 +62,156 @@ input_from run.ReadFault h other = absurd h
 input_from run.WriteFault h other = absurd (other refl)
 input_from run.NoMemory h other = tt
 
+-- Where the sink takes all, a step fails since the record isn't taken, or out of memory.
+refuses_record : (s : Settings) (rs : List Record) (r : Record) (at : ℕ) (w0 w1 : Option (List ℕ)) (e : RunFault)
+    → Fails s rs r at w0 w1 e → e ≢ run.WriteFault → RefusesRecord s rs r at e
+refuses_record s rs r at w0 w1 (run.BadRecord place) f other = absurd f
+refuses_record s rs r at w0 w1 (run.Closed place) f other = (f.0, f.1)
+refuses_record s rs r at w0 w1 (run.SequenceExhausted place) f other = (f.0, f.1)
+refuses_record s rs r at w0 w1 (run.Unfit place) f other = (f.0, f.1)
+refuses_record s rs r at w0 w1 run.Limit f other = absurd f
+refuses_record s rs r at w0 w1 run.ReadFault f other = absurd f
+refuses_record s rs r at w0 w1 run.WriteFault f other = absurd (other refl)
+refuses_record s rs r at w0 w1 run.NoMemory f other = tt
+
+-- A step that fails refuses its line, once the text that waits is cut to what waited before.
+pub refuses_line : (p : RunState) (r : Record) (now w : List ℕ) (e : RunFault)
+    → ((s : Settings) (rs : List Record) → Tracks s rs p.runner → Fails s rs r p.line_start (Some p.text.items) (Some now) e)
+    → e ≢ run.WriteFault → w ≡ take (length p.text.items) now → RefusesLine (told.Record r) p w e
+refuses_line p r now w e fails other cut s rs tracks =
+    let f = fails s rs tracks in
+    (refuses_record s rs r p.line_start (Some p.text.items) (Some now) e f other, cut ∙ kept_front s rs r p.line_start p.text.items now e f)
+
+-- ---- at the end of a line
+
+module _ (p : RunState) (d : LineDecoder Message) (piece : List ℕ) (took : ℕ) (line : Line) (s : Settings) (bytes text : List ℕ)
+    (ends : EndsLine format.reads p.decoder piece took d line) (h : HasRead s bytes p text)
+    (low : p.taken + length piece ≤ s.limit) where
+  -- What is left begins with a whole line.
+  begins : (after : List ℕ) → BeginsLine format s IsEntry h.records ((h.line ++ piece) ++ after) (h.line ++ ends.front)
+  begins after = record {
+    rest = ends.rest ++ after;
+    spelled =
+        ap (λ z. (h.line ++ z) ++ after) ends.cut ∙ append_assoc h.line (ends.front ++ newline ∷ ends.rest) after
+        ∙ ap (λ z. h.line ++ z) (append_assoc ends.front (newline ∷ ends.rest) after)
+        ∙ sym (append_assoc h.line ends.front (newline ∷ (ends.rest ++ after)));
+    one = joined_part h.line ends.front h.part ends.first;
+    within =
+        let lines = lines_of h.records in
+        let l : length bytes ≡ length lines + length h.line = ap length h.spelled ∙ length-append lines h.line in
+        let k : length piece ≡ length ends.front + length (newline ∷ ends.rest) = ap length ends.cut ∙ length-append ends.front (newline ∷ ends.rest) in
+        let n : length (h.line ++ ends.front) ≡ length h.line + length ends.front = length-append h.line ends.front in
+        omega (arith, l, k, n, h.count, low);
+  }
+
+  -- A run halts there for this reason.
+  halts_there : (fault : RunFault) → ((after : List ℕ) → HaltsBy s h.records ((h.line ++ piece) ++ after) fault)
+      → Halting s (bytes ++ piece) text fault
+  halts_there fault stops = record {
+    records = h.records;
+    part = h.line ++ piece;
+    taken = h.tracks.taken;
+    spelled = ap (λ b. b ++ piece) h.spelled ∙ append_assoc (lines_of h.records) h.line piece;
+    told = h.told;
+    stops = stops;
+  }
+
+  -- A line that isn't taken halts a run.
+  line_halts : (m : RunState) (w : List ℕ) (fault : RunFault) → m.runner ≡ p.runner → m.line_start ≡ p.line_start
+      → m.text.items ≡ p.text.items → RefusesLine line m w fault → Halting s (bytes ++ piece) text fault × (w ≡ p.text.items)
+  line_halts m w fault runner start same refuses = by line (ends.told h.line h.decoded) refuses
+    where
+      by : (l : Line) → IsLineOf IsEntry (h.line ++ ends.front) l → RefusesLine l m w fault
+          → Halting s (bytes ++ piece) text fault × (w ≡ p.text.items)
+      by told.Bad none f =
+          let bad = halts_there (run.BadRecord m.line_start) (λ after. (
+            start ∙ h.start,
+            inl (record { line = h.line ++ ends.front; begins = begins after; none = none }),
+          )) in
+          (subst (λ e. Halting s (bytes ++ piece) text e) (sym f.0) bad, f.1 ∙ same)
+      by (told.Record r) is f =
+          let refused = f s h.records (subst (Tracks s h.records) (sym runner) h.tracks) in
+          (halts_there fault (λ after. stops after fault refused.0), refused.1 ∙ same)
+        where
+          refuses_for : (after : List ℕ) (why : Refusal) → refusal format s (events s h.records) r ≡ Some why
+              → BeginsRefused format s IsEntry h.records ((h.line ++ piece) ++ after) why
+          refuses_for after why c = record {
+            entry = r;
+            line = h.line ++ ends.front;
+            begins = begins after;
+            is = is.0;
+            allowed = is.1;
+            cause = c;
+          }
+
+          stops : (after : List ℕ) (e : RunFault) → RefusesRecord s h.records r m.line_start e
+              → HaltsBy s h.records ((h.line ++ piece) ++ after) e
+          stops after (run.BadRecord at) f = absurd f
+          stops after (run.Closed at) f = (f.0 ∙ start ∙ h.start, refuses_for after AfterClose f.1)
+          stops after (run.SequenceExhausted at) f = (f.0 ∙ start ∙ h.start, refuses_for after OutOfNumbers f.1)
+          stops after (run.Unfit at) f = (f.0 ∙ start ∙ h.start, refuses_for after TooLong f.1)
+          stops after run.Limit f = absurd f
+          stops after run.ReadFault f = absurd f
+          stops after run.WriteFault f = absurd f
+          stops after run.NoMemory f = tt
+
+-- A piece whose first line isn't taken halts a run; m is the state before the line is judged.
+pub halts_at_line : (p m : RunState) (piece w : List ℕ) (took : ℕ) (line : Line) (fault : RunFault)
+    → EndsLine format.reads p.decoder piece took m.decoder line → p.taken + length piece ≤ p.runner.settings.limit
+    → m.runner ≡ p.runner → m.line_start ≡ p.line_start → m.text.items ≡ p.text.items → RefusesLine line m w fault
+    → HaltedBy p piece w fault
+halts_at_line p m piece w took line fault ends low runner start same refuses s bytes text h =
+    let within = subst (λ (q : Settings). p.taken + length piece ≤ q.limit) h.tracks.settings low in
+    let here = line_halts p m.decoder piece took line s bytes text ends h within m w fault runner start same refuses in
+    ([], subst (λ z. Halting s (bytes ++ piece) z fault) (sym (append-nil text)) here.0, here.1 ∙ sym (append-nil p.text.items))
+
 -- ---- within a line
 
--- Where memory runs out.
-pub memory_halt : (s : Settings) (bytes piece text line : List ℕ) (runner : Runner) → HasRead s bytes runner line text
-    → Halting s (bytes ++ piece) text run.NoMemory
-memory_halt s bytes piece text line runner h = record {
-  records = h.records;
-  part = line ++ piece;
-  taken = h.tracks.taken;
-  spelled = ap (λ b. b ++ piece) h.spelled ∙ append_assoc (lines_of h.records) line piece;
-  told = h.told;
-  stops = λ after. tt;
-}
+-- A piece halts a run where memory runs out at its beginning.
+pub halts_for_memory : (p : RunState) (piece : List ℕ) → HaltedBy p piece p.text.items run.NoMemory
+halts_for_memory p piece s bytes text h = (
+  [],
+  subst (λ z. Halting s (bytes ++ piece) z run.NoMemory) (sym (append-nil text)) (record {
+    records = h.records;
+    part = h.line ++ piece;
+    taken = h.tracks.taken;
+    spelled = ap (λ b. b ++ piece) h.spelled ∙ append_assoc (lines_of h.records) h.line piece;
+    told = h.told;
+    stops = λ after. tt;
+  }),
+  sym (append-nil p.text.items),
+)
+
+-- A piece past the limit halts a run that has come to it.
+pub halts_at_limit : (p : RunState) (past : List ℕ) → p.taken ≡ p.runner.settings.limit → 0 < length past
+    → HaltedBy p past p.text.items run.Limit
+halts_at_limit p past is some s bytes text h =
+    let lines = lines_of h.records in
+    let l : length bytes ≡ length lines + length h.line = ap length h.spelled ∙ length-append lines h.line in
+    let limit : p.taken ≡ s.limit = is ∙ ap (λ (q : Settings). q.limit) h.tracks.settings in (
+      [],
+      subst (λ z. Halting s (bytes ++ past) z run.Limit) (sym (append-nil text)) (record {
+        records = h.records;
+        part = h.line ++ past;
+        taken = h.tracks.taken;
+        spelled = ap (λ b. b ++ past) h.spelled ∙ append_assoc lines h.line past;
+        told = h.told;
+        stops = λ after. record {
+          piece = h.line;
+          rest = past ++ after;
+          spelled = append_assoc h.line past after;
+          part = h.part;
+          reaches = sym l ∙ sym h.count ∙ limit;
+          more = let n : length (past ++ after) ≡ length past + length after = length-append past after in omega (arith, n, some);
+        };
+      }),
+      sym (append-nil p.text.items),
+    )
+
+-- ---- pieces one after another
 
 -- What follows changes nothing.
-pub halting_more : (s : Settings) (bytes more text : List ℕ) (e : RunFault) → Halting s bytes text e
-    → Halting s (bytes ++ more) text e
+halting_more : (s : Settings) (bytes more text : List ℕ) (e : RunFault) → Halting s bytes text e → Halting s (bytes ++ more) text e
 halting_more s bytes more text e h = record {
   records = h.records;
   part = h.part ++ more;
@@ -157,124 +223,61 @@ halting_more s bytes more text e h = record {
       subst (λ left. HaltsBy s h.records left e) same (h.stops (more ++ after));
 }
 
--- At a byte past the limit.
-limit_halt : (s : Settings) (bytes text line more : List ℕ) (b : ℕ) (runner : Runner) (taken : ℕ)
-    → HasRead s bytes runner line text → taken ≡ length bytes → taken ≡ s.limit
-    → Halting s (bytes ++ b ∷ more) text run.Limit
-limit_halt s bytes text line more b runner taken h t is =
-    let lines = lines_of h.records in
-    let l : length bytes ≡ length lines + length line = ap length h.spelled ∙ length-append lines line in
-    record {
-      records = h.records;
-      part = line ++ b ∷ more;
-      taken = h.tracks.taken;
-      spelled = ap (λ z. z ++ b ∷ more) h.spelled ∙ append_assoc lines line (b ∷ more);
-      told = h.told;
-      stops = λ after. record {
-        piece = line;
-        rest = b ∷ (more ++ after);
-        spelled = append_assoc line (b ∷ more) after;
-        part = h.part;
-        reaches = sym l ∙ sym t ∙ is;
-        more = some (more ++ after);
-      };
-    }
-  where
-    some : (xs : List ℕ) → 0 < length (b ∷ xs)
-    some xs = omega arith
+-- A piece halts a run where its first bytes do.
+pub halts_before : (p : RunState) (piece more w : List ℕ) (e : RunFault) → HaltedBy p piece w e → HaltedBy p (piece ++ more) w e
+halts_before p piece more w e halted s bytes text h =
+    let a = halted s bytes text h in
+    let here = halting_more s (bytes ++ piece) more (text ++ a.0) e a.1 in
+    (a.0, subst (λ z. Halting s z (text ++ a.0) e) (append_assoc bytes piece more) here, a.2)
 
--- ---- within a piece
+-- And where its last bytes do, once the others are fed.
+pub halts_after : (p q : RunState) (piece more w : List ℕ) (e : RunFault) → FedPiece p piece q → HaltedBy q more w e
+    → HaltedBy p (piece ++ more) w e
+halts_after p q piece more w e fed halted s bytes text h =
+    let a = fed s bytes text h in
+    let b = halted s (bytes ++ piece) (text ++ a.0) a.1 in (
+      a.0 ++ b.0,
+      subst (λ z. Halting s (bytes ++ (piece ++ more)) z e) (append_assoc text a.0 b.0)
+          (subst (λ z. Halting s z ((text ++ a.0) ++ b.0) e) (append_assoc bytes piece more) b.1),
+      b.2 ∙ ap (λ o. o ++ b.0) a.2 ∙ append_assoc p.text.items a.0 b.0,
+    )
 
-count_at : (i : ℕ) (bytes piece : List ℕ) (t t0 : ℕ) → t ≡ t0 + i → t0 ≡ length bytes → i < length piece
-    → t ≡ length (bytes ++ take i piece)
-count_at i bytes piece t t0 e h low =
-    let l : length (bytes ++ take i piece) ≡ length bytes + length (take i piece) = length-append bytes (take i piece) in
-    let k : length (take i piece) ≡ i = grind (arith, common_steps) in
-    omega (arith, l, k, e, h)
+-- The same of what is left of a piece.
+pub halts_up_to : (p q : RunState) (piece rest w : List ℕ) (e : RunFault) → FedUpTo p piece q rest → HaltedBy q rest w e
+    → HaltedBy p piece w e
+halts_up_to p q piece rest w e h halted =
+    subst (λ z. HaltedBy p z w e) (sym h.cut) (halts_after p q h.done rest w e h.fed halted)
 
--- A piece in three parts.
-three_parts : (i : ℕ) (bytes piece : List ℕ) (b : ℕ) → i < length piece → get_or piece i 0 ≡ b
-    → (bytes ++ take i piece) ++ b ∷ drop (i + 1) piece ≡ bytes ++ piece
-three_parts i bytes piece b low is =
-    let rest = drop (i + 1) piece in
-    let cut : drop i piece ≡ b ∷ rest = drop_more piece i 0 low ∙ ap (λ c. c ∷ rest) is in
-    append_assoc bytes (take i piece) (b ∷ rest) ∙ ap (λ z. bytes ++ (take i piece ++ z)) (sym cut)
-    ∙ ap (λ z. bytes ++ z) (take-append-drop i piece)
+-- ---- a piece that is cut in two
 
-module _ (r0 : Runner) (l0 w0 : List ℕ) (t0 : ℕ) (piece : List ℕ) (i : ℕ) (r : Runner) (l w : List ℕ) (t : ℕ)
-    (fed : Feeds r0 l0 w0 (take i piece) r l w) (low : i < length piece) (count : t ≡ t0 + i) where
-  -- A piece halts a run at its limit.
-  pub halts_at_limit : (limit : ℕ) → r0.settings.limit ≡ limit → t ≡ limit → Halts r0 l0 w0 t0 piece w run.Limit
-  halts_at_limit limit e is s bytes text h t0is =
-      let a = fed s bytes text h in
-      let settings : r0.settings ≡ s = h.tracks.settings in
-      let at : t ≡ s.limit = is ∙ sym e ∙ ap (λ (q : Settings). q.limit) settings in
-      let b = get_or piece i 0 in
-      let taken = count_at i bytes piece t t0 count t0is low in
-      let here = limit_halt s (bytes ++ take i piece) (text ++ a.0) l (drop (i + 1) piece) b r t a.1 taken at in
-      let whole = three_parts i bytes piece b low refl in
-      (a.0, subst (λ z. Halting s z (text ++ a.0) run.Limit) whole here, a.2)
+-- A list of length 0 is empty.
+pub no_bytes : (xs : List ℕ) → length xs ≡ 0 → xs ≡ []
+no_bytes [] none = refl
+no_bytes (x ∷ xs) none = absurd (omega (arith, none))
 
-  -- A piece halts a run at a line that halts it.
-  pub halts_at_line : (w' : List ℕ) (e : RunFault) → get_or piece i 0 ≡ 10 → Halts r l w t newline w' e
-      → Halts r0 l0 w0 t0 piece w' e
-  halts_at_line w' e is halt s bytes text h t0is =
-      let a = fed s bytes text h in
-      let front = bytes ++ take i piece in
-      let b = halt s front (text ++ a.0) a.1 (count_at i bytes piece t t0 count t0is low) in
-      let rest = drop (i + 1) piece in
-      let whole : (front ++ newline) ++ rest ≡ bytes ++ piece =
-      append_assoc front newline rest ∙ three_parts i bytes piece 10 low is in
-      let here = halting_more s (front ++ newline) rest ((text ++ a.0) ++ b.0) e b.1 in (
-        a.0 ++ b.0,
-        subst (λ z. Halting s (bytes ++ piece) z e) (append_assoc text a.0 b.0)
-            (subst (λ z. Halting s z ((text ++ a.0) ++ b.0) e) whole here),
-        b.2 ∙ ap (λ z. z ++ b.0) a.2 ∙ append_assoc w0 a.0 b.0,
-      )
+-- A number that is not 0 is above it.
+pub above_none : (n : ℕ) → (n == 0) ≡ false → 0 < n
+above_none zero other = cc
+above_none (suc n) other = omega arith
 
-  -- A piece halts a run where memory runs out.
-  pub halts_for_memory : Halts r0 l0 w0 t0 piece w run.NoMemory
-  halts_for_memory s bytes text h t0is =
-      let a = fed s bytes text h in
-      let front = bytes ++ take i piece in
-      let whole : front ++ drop i piece ≡ bytes ++ piece =
-      append_assoc bytes (take i piece) (drop i piece) ∙ ap (λ z. bytes ++ z) (take-append-drop i piece) in
-      let here = memory_halt s front (drop i piece) (text ++ a.0) l r a.1 in
-      (a.0, subst (λ z. Halting s z (text ++ a.0) run.NoMemory) whole here, a.2)
+module _ (p : RunState) (piece front back : List ℕ) (n : ℕ) (is_front : front ≡ take n piece) (is_back : back ≡ drop n piece) where
+  -- Both parts are the piece.
+  both_parts : front ++ back ≡ piece
+  both_parts = ap (λ z. z ++ back) is_front ∙ ap (λ z. take n piece ++ z) is_back ∙ take-append-drop n piece
 
--- ---- at a whole line
+  -- It halts a run where the front does.
+  pub halts_in_front : (w : List ℕ) (e : RunFault) → HaltedBy p front w e → HaltedBy p piece w e
+  halts_in_front w e halted = subst (λ z. HaltedBy p z w e) both_parts (halts_before p front back w e halted)
 
-module _ (r : Runner) (l w : List ℕ) (t : ℕ) where
-  -- Halting with no more text.
-  with_no_text : (piece : List ℕ) (e : RunFault)
-      → ((s : Settings) (bytes text : List ℕ) → HasRead s bytes r l text → t ≡ length bytes → Halting s (bytes ++ piece) text e)
-      → Halts r l w t piece w e
-  with_no_text piece e halt s bytes text h is =
-      let here = subst (λ z. Halting s (bytes ++ piece) z e) (sym (append-nil text)) (halt s bytes text h is) in
-      ([], here, sym (append-nil w))
+  -- It halts a run that comes to its limit before the back.
+  pub halts_past : (q : RunState) → FedPiece p front q → q.taken ≡ q.runner.settings.limit → 0 < length back
+      → HaltedBy p piece q.text.items run.Limit
+  halts_past q fed is some =
+      subst (λ z. HaltedBy p z q.text.items run.Limit) both_parts
+      (halts_after p q front back q.text.items run.Limit fed (halts_at_limit q back is some))
 
-  -- A line that is no record halts a run.
-  pub halts_at_bad : (at : ℕ) → at ≡ t - length l → t < r.settings.limit → IsNoRecord IsEntry l
-      → Halts r l w t newline w (run.BadRecord at)
-  halts_at_bad at a low none = with_no_text newline (run.BadRecord at) (λ s bytes text h is.
-      let within = subst (λ (q : Settings). t < q.limit) h.tracks.settings low in
-      bad_halt s bytes text l r t at h is a within none)
-
-  -- A record that isn't taken halts a run, and the text that waits is cut to what waited before.
-  pub halts_at_refused : (at : ℕ) (entry : Record) (now w' : List ℕ) (e : RunFault) → at ≡ t - length l
-      → t < r.settings.limit → l ++ newline ≡ record_line entry → IsEntry entry
-      → ((s : Settings) (rs : List Record) → Tracks s rs r → Fails s rs entry at (Some w) (Some now) e)
-      → e ≢ run.WriteFault → w' ≡ take (length w) now → Halts r l w t newline w' e
-  halts_at_refused at entry now w' e a low is built fails other cut s bytes text h t_is =
-      let f = fails s h.records h.tracks in
-      let within = subst (λ (q : Settings). t < q.limit) h.tracks.settings low in
-      let here = refused_halt s bytes text l r t at h t_is a within entry (Some w) (Some now) e is built f other in (
-        [],
-        subst (λ z. Halting s (bytes ++ newline) z e) (sym (append-nil text)) here,
-        cut ∙ kept_front s h.records entry at w now e f ∙ sym (append-nil w),
-      )
-
-  -- A piece halts a run where memory runs out at its beginning.
-  pub halts_at_once : (piece : List ℕ) → Halts r l w t piece w run.NoMemory
-  halts_at_once piece =
-      with_no_text piece run.NoMemory (λ s bytes text h is. memory_halt s bytes piece text l r h)
+  -- It is fed where the front is all.
+  pub fed_whole : (q : RunState) → FedPiece p front q → length back ≡ 0 → FedPiece p piece q
+  fed_whole q fed none =
+      let whole : front ≡ piece = sym (append-nil front) ∙ ap (λ z. front ++ z) (sym (no_bytes back none)) ∙ both_parts in
+      subst (λ z. FedPiece p z q) whole fed

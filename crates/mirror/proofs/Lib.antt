@@ -24,7 +24,9 @@ pub mod TrackLaws
 pub mod Feeds
 pub mod Halts
 pub mod Begins
+pub mod GoingOn
 pub mod Ends
 pub mod Complete
 pub mod Converged
 pub mod Generating
+pub mod Statuses

@@ -1,5 +1,5 @@
 -- Which status the program ends with, and what it writes last.
-use Rattle.std.specs.Prelude.{◌≡◌, ◌⊎◌, ℕ, Bool, true, false, List, [], ◌∷◌, Option, codes}
+use Rattle.std.specs.Prelude.{◌≡◌, ◌⊎◌, ℕ, Bool, true, false, List, [], ◌∷◌, Option, Result, Ok, Err, codes}
 use Rattle.std.specs.Io.KnownBytes.{IsAtEnd}
 use Rattle.std.specs.Fmt.{decimal}
 use Rattle.session_model.specs.declared.settings.Settings.{Settings}
@@ -7,6 +7,8 @@ use Rattle.session_model.specs.declared.outcome.Report.{Report}
 use Rattle.session_model.specs.declared.outcome.RunFault.{RunFault}
 use Rattle.session_model.specs.declared.outcome.RunFault.TheVariants as run
 use Rattle.session_model.specs.Lines.{line}
+use Rattle.mirror.specs.declared.program_fault.ProgramFault.{ProgramFault}
+use Rattle.mirror.specs.declared.program_fault.ProgramFault.TheVariants as program
 use Rattle.mirror.specs.Faults.{IsOutputFault}
 use Rattle.transcript_io.specs.Io.{GainedSome, Traffic, with_back}
 use Rattle.mirror.specs.Outcome.{WasEnded, WasRun}
@@ -21,6 +23,11 @@ fault_status run.Limit = 6
 fault_status run.ReadFault = 7
 fault_status run.WriteFault = 8
 fault_status run.NoMemory = 9
+
+-- The exit status of what keeps the program from status 0.
+abbrev pub program_status : ProgramFault → ℕ
+program_status program.OtherWords = 1
+program_status (program.Run fault) = fault_status fault
 
 -- A truth as a word.
 abbrev pub yes_or_no : Bool → List ℕ
@@ -56,6 +63,16 @@ pub record WasCutShort (s : Settings) (io : Traffic) (fault : RunFault) : Type 0
 -- A run ended by a fault, or its report could not be written whole.
 abbrev pub HasFailed : Settings → Traffic → RunFault → Type 0
 HasFailed s io fault = WasEnded s io fault ⊎ WasCutShort s io fault
+
+-- The whole input was run, the sink gained its text, and then the line of this report, which is its own.
+abbrev pub HasReported : Settings → Traffic → Report → Type 0
+HasReported s io report = (reported : WasReported s io) × (reported.report ≡ report)
+
+-- What a run of the source's transcript came to: its report, or a fault.
+abbrev pub RanTo : Settings → Traffic → Result Report ProgramFault → Type 0
+RanTo s io (Ok report) = HasReported s io report
+RanTo s io (Err program.OtherWords) = ⊥
+RanTo s io (Err (program.Run fault)) = HasFailed s io fault
 
 -- What a status says: 0 of a run whose report is written whole, and that of the fault of one that failed.
 abbrev pub Ran : Settings → Traffic → ℕ → Type 0

@@ -1,5 +1,5 @@
 -- How a run ends: what it took of its source, what its sink gained, and why.
-use Rattle.std.specs.Prelude.{◌≡◌, ◌≤◌, ◌⊎◌, ℕ, false, List, [], ◌++◌, length, Option, Some, Result, IfErr, MatchResult}
+use Rattle.std.specs.Prelude.{◌≡◌, ◌≤◌, ◌⊎◌, ℕ, false, List, [], ◌++◌, Option, Some, Result, IfErr, MatchResult}
 use Rattle.session_model.specs.declared.settings.Settings.{Settings}
 use Rattle.session_model.specs.declared.outcome.Report.{Report}
 use Rattle.session_model.specs.declared.outcome.RunFault.{RunFault}
@@ -20,9 +20,8 @@ pub record Running (s : Settings) (io : Traffic) (p : RunState) : Type 0 where
   pub bytes : List ℕ
   pub text : List ℕ
   pub read : io.left_before ≡ with_front bytes io.left_after
-  pub count : p.taken ≡ length bytes
   pub limit : p.taken ≤ s.limit
-  pub reached : HasRead s bytes p.runner p.line.items text
+  pub reached : HasRead s bytes p text
   pub gained : Gained io.written_before io.written_after text p.text.items
 
 -- What a run took of its source is the lines of records that are taken and a part; the sink gained the first bytes of their

@@ -1,10 +1,10 @@
 //! The program over any source and sink.
-ghost use Rattle.std.specs.Prelude.{◌≡◌, ◌≤◌, ◌++◌, OnOk, OnErr, IfErr, Err, map, string_bytes, ℕ};
+ghost use Rattle.std.specs.Prelude.{◌≡◌, ◌≤◌, ◌++◌, OnOk, OnErr, IfOk, IfErr, Err, map, string_bytes, ℕ};
 ghost use Rattle.session_model.specs.declared.settings.Settings.{Settings};
 ghost use Rattle.transcript_io.specs.Io.{GainedSome, HasRisen, traffic, with_back};
-ghost use Rattle.mirror.specs.Cli.{HasFailed, Ran, WasReported, fault_status, ok_line};
+ghost use Rattle.mirror.specs.Cli.{HasFailed, HasReported, Ran, RanTo, ok_line};
 ghost use Rattle.mirror.specs.Faults.{IsOutputFault};
-ghost use Rattle.mirror.specs.Generating.{HasGenerated, generated_report};
+ghost use Rattle.mirror.specs.Generating.{GeneratedTo, HasGenerated, generated_report};
 ghost use Rattle.mirror.specs.Options.{AreOtherWords, AskForGenerated, SpellSettings};
 ghost use Rattle.transcript_generator.specs.Generated.{most_routes};
 
@@ -12,6 +12,7 @@ use crate::generated::run_generated;
 use crate::options::{read_count, read_words};
 use crate::output::write_text;
 use crate::program::run;
+use crate::program_fault::ProgramFault;
 use nl_core::NoMemory;
 use session_model::{Report, RunFault, Settings};
 use std::alloc::Global;
@@ -20,9 +21,6 @@ use transcript_lines::{Word, put_line};
 
 // The status of a run whose text and report are written whole.
 const SUCCESS: u8 = 0;
-
-// The status of words that are not the program's.
-const OTHER_WORDS: u8 = 1;
 
 /// The program. Its words are `run` and then, in any order and each at most once, `limit=N`, `peer=N`, `table=N`,
 /// `start=N`, `noop`, `done` and `ack`; N is decimal without leading zeros, below 2^64 for `limit` and below 2^32 else. It
@@ -48,58 +46,60 @@ pub fn cli<S: Source, K: Sink>(alloc: Global, words: &[String], input: &mut S, o
     ensures read_cause { result ≡ 7 → HasRisen (S.faults input.old) (S.faults input.new) }
     ensures write_cause { result ≡ 8 → HasRisen (K.faults out.old) (K.faults out.new) }
 {
+    match run_words(alloc, words, input, out) {
+        Ok(_) => SUCCESS,
+        Err(fault) => fault.status(),
+    }
+}
+
+/// The program, as `cli`, whose status is that of this answer: the report, once it is written too; and else why not. A
+/// fault of the input has its place.
+pub fn run_words<S: Source, K: Sink>(
+    alloc: Global,
+    words: &[String],
+    input: &mut S,
+    out: &mut K,
+) -> Result<Report, ProgramFault>
+    ensures ran { (settings : Settings) → SpellSettings (map string_bytes words.now) settings
+        → RanTo settings (traffic S.left input.old input.new K.written out.old out.new) result }
+
+    // `gen N` reads nothing, and writes the line of its report alone.
+    ensures generated { (n : ℕ) → AskForGenerated (map string_bytes words.now) n
+        → GeneratedTo n (K.written out.old) (K.written out.new) result × (input.new ≡ input.old) }
+
+    // OtherWords comes exactly where the words are not the program's, and leaves source and sink as they were.
+    ensures other { AreOtherWords (map string_bytes words.now) → result ≡ Err ProgramFault.OtherWords }
+    ensures usage { result ≡ Err ProgramFault.OtherWords → AreOtherWords (map string_bytes words.now) }
+    ensures untouched { AreOtherWords (map string_bytes words.now) → (input.new ≡ input.old) × (out.new ≡ out.old) }
+
+    ensures read_cause { result ≡ Err (ProgramFault.Run RunFault.ReadFault)
+        → HasRisen (S.faults input.old) (S.faults input.new) }
+    ensures write_cause { result ≡ Err (ProgramFault.Run RunFault.WriteFault)
+        → HasRisen (K.faults out.old) (K.faults out.new) }
+{
     if let Some(count) = read_count(words) {
-        return generate(alloc, count, out);
+        return Ok(generate_and_report(alloc, count, out)?);
     }
     let Some(settings) = read_words(words) else {
-        return OTHER_WORDS;
+        return Err(ProgramFault::OtherWords);
     };
-    match run_and_report(alloc, input, out, &settings) {
-        Ok(()) => SUCCESS,
-        Err(fault) => status_of(fault),
-    }
+    Ok(run_and_report(alloc, input, out, &settings)?)
 }
 
-// The exit status of a fault.
-fn status_of(fault: RunFault) -> u8
-    ensures { result ≡ fault_status fault }
-{
-    match fault {
-        RunFault::BadRecord { .. } => 2,
-        RunFault::Closed { .. } => 3,
-        RunFault::SequenceExhausted { .. } => 4,
-        RunFault::Unfit { .. } => 5,
-        RunFault::Limit => 6,
-        RunFault::ReadFault => 7,
-        RunFault::WriteFault => 8,
-        RunFault::NoMemory => 9,
-    }
-}
-
-// Runs the generated transcript of so many routes, and writes its report. The answer is the exit status.
-fn generate<K: Sink>(alloc: Global, count: u32, out: &mut K) -> u8
-    requires { count ≤ most_routes }
-    ensures told { HasGenerated count (K.written out.old) (K.written out.new) result }
-    ensures write_cause { result ≡ 8 → HasRisen (K.faults out.old) (K.faults out.new) }
-{
-    match generate_and_report(alloc, count, out) {
-        Ok(()) => SUCCESS,
-        Err(fault) => status_of(fault),
-    }
-}
-
-// The same; the answer is the fault.
-fn generate_and_report<K: Sink>(alloc: Global, count: u32, out: &mut K) -> Result<(), RunFault>
+// Runs the generated transcript of so many routes, and writes its report.
+fn generate_and_report<K: Sink>(alloc: Global, count: u32, out: &mut K) -> Result<Report, RunFault>
     requires { count ≤ most_routes }
     ensures ok { OnOk result
         (K.written out.new ≡ with_back (K.written out.old) (ok_line (generated_report count))) }
+    ensures report { IfOk result (λ report. report ≡ generated_report count) }
     ensures part { OnErr result
         (GainedSome (K.written out.old) (K.written out.new) (ok_line (generated_report count))) }
     ensures cause { result ≡ Err RunFault.WriteFault → HasRisen (K.faults out.old) (K.faults out.new) }
     ensures only { IfErr result IsOutputFault }
 {
     let report = run_generated(alloc, count)?;
-    write_report(alloc, &report, out)
+    write_report(alloc, &report, out)?;
+    Ok(report)
 }
 
 // Runs the source's transcript under settings, and writes its report.
@@ -108,16 +108,17 @@ fn run_and_report<S: Source, K: Sink>(
     input: &mut S,
     out: &mut K,
     settings: &Settings,
-) -> Result<(), RunFault>
-    ensures ok { OnOk result
-        (WasReported settings.now (traffic S.left input.old input.new K.written out.old out.new)) }
+) -> Result<Report, RunFault>
+    ensures ok { IfOk result
+        (HasReported settings.now (traffic S.left input.old input.new K.written out.old out.new)) }
     ensures failed { IfErr result
         (HasFailed settings.now (traffic S.left input.old input.new K.written out.old out.new)) }
     ensures read_cause { result ≡ Err RunFault.ReadFault → HasRisen (S.faults input.old) (S.faults input.new) }
     ensures write_cause { result ≡ Err RunFault.WriteFault → HasRisen (K.faults out.old) (K.faults out.new) }
 {
     let report = run(alloc, input, out, settings)?;
-    write_report(alloc, &report, out)
+    write_report(alloc, &report, out)?;
+    Ok(report)
 }
 
 // Writes the line of a report.

@@ -14,6 +14,7 @@ mod open_streams;
 mod options;
 mod output;
 mod program;
+mod program_fault;
 mod records;
 mod request;
 mod run_state;
@@ -22,13 +23,15 @@ mod step_fault;
 #[cfg(test)]
 mod tests;
 
-pub use command::cli;
+pub use command::{cli, run_words};
 pub use laws::{one_outcome, one_settings};
 pub use message::{Message, RouteConnection};
 pub use program::run;
+pub use program_fault::ProgramFault;
 pub use records::read_line;
 pub use route_mirror::{Address, Answer, Mirror, Network, Route};
 pub use runner::Runner;
 pub use session_model::{BatchFrame, Mark, Record, Report, RunFault, Settings, SocketAddr};
 pub use transcript_generator::gen_text;
 pub use transcript_io::{MemorySink, MemorySource, Read, Sink, Source, StdSink, StdSource, Wrote};
+pub use transcript_lines::{Fed, Line, LineDecoder};

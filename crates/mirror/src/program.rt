@@ -64,10 +64,10 @@ fn run_transcript<S: Source, K: Sink>(
     let ended = state.read_all(input, out);
     state.flush(out)?;
     ended?;
-    let unfinished = state.line.as_slice().len() as u64;
-    if unfinished > 0 {
-        let at = state.taken - unfinished;
-        return Err(RunFault::BadRecord { at });
+    if state.decoder.begun() {
+        return Err(RunFault::BadRecord {
+            at: state.line_start,
+        });
     }
     Ok(state.runner.report())
 }

@@ -195,8 +195,7 @@ fn faults_of_source_and_sink_are_reported(rt: HostRuntime) -> Result<(), Fail> {
         assert_eq!(rt; out.bytes(), text.as_bytes(), "at {call}");
     }
 
-    // Its text has 66 bytes and 9, the first written before the rest of the dump is read, and the last
-    // line by itself.
+    // Its text is written by 66 and 9 bytes, and the last line is written by itself.
     let writes = [(1, 8, 0), (2, 8, 40), (3, 8, 66), (4, 8, 75), (5, 0, 89)];
     for (call, status, count) in writes {
         let mut input = source(alloc, DUMP, 40, &[])?;
@@ -208,6 +207,29 @@ fn faults_of_source_and_sink_are_reported(rt: HostRuntime) -> Result<(), Fail> {
         );
         assert!(rt; out.bytes().len() == count, "at {call}");
         assert!(rt; DUMP_TOLD.as_bytes().starts_with(out.bytes()), "at {call}");
+    }
+    Ok(())
+}
+
+// A line's text is written before more is read. Where the first write fails, the second line is still in the source; where
+// the second read fails, the text of the first line stands in the sink.
+#[test]
+fn a_line_is_answered_before_more_is_read(rt: HostRuntime) -> Result<(), Fail> {
+    let alloc = rt.alloc();
+    let settings = Settings::usual();
+    let text = "unsol 1 0 0 4 0 0 0 -\n";
+    let rows = [
+        ([0, 1], RunFault::WriteFault, ""),
+        ([2, 0], RunFault::ReadFault, text),
+    ];
+    for ([read, write], fault, text) in rows {
+        let mut input = source(alloc, "overrun\nresync\n\n", 8, &[read])?;
+        let mut out = sink(alloc, 100, &[write])?;
+        assert_eq!(rt; run(alloc, &mut input, &mut out, &settings), Err(fault));
+        assert_eq!(rt; out.bytes(), text.as_bytes());
+        let mut line = [0; 8];
+        assert_eq!(rt; input.read(&mut line), Read::Got(8));
+        assert_eq!(rt; line.as_slice(), b"resync\n\n".as_slice());
     }
     Ok(())
 }

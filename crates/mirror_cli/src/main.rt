@@ -1,16 +1,14 @@
 //! The program: standard input to standard output.
 #![tactic(auto)]
 
-use mirror::{StdSink, StdSource, cli};
+use mirror::{ProgramFault, RunFault, StdSink, StdSource, run_words};
 use std::env;
 use std::io::{self, ErrorKind};
 use std::process::ExitCode;
 
-// The status of words that are not the program's.
-const OTHER_WORDS: u8 = 1;
-
-// The status of a run that is out of memory, here for the words themselves.
-const NO_MEMORY: u8 = 9;
+// What is told of words that are not the program's.
+const USAGE: &str =
+    "usage: mirror_cli run [limit=N] [peer=N] [table=N] [start=N] [noop] [done] [ack], or mirror_cli gen N";
 
 // The words after the program's own name. Words that are no UTF-8 are an error.
 fn words(rt: &HostRuntime) -> io::Result<Vec<String>> {
@@ -21,29 +19,48 @@ fn words(rt: &HostRuntime) -> io::Result<Vec<String>> {
     Ok(words)
 }
 
-// The status where the words could not be had: words that are no UTF-8 are other words.
-fn status_of(error: &io::Error) -> u8 {
+// Why the words could not be had: words that are no UTF-8 are other words.
+fn fault_of(error: &io::Error) -> ProgramFault {
     match error.kind() {
-        ErrorKind::OutOfMemory => NO_MEMORY,
-        _ => OTHER_WORDS,
+        ErrorKind::OutOfMemory => ProgramFault::Run(RunFault::NoMemory),
+        _ => ProgramFault::OtherWords,
     }
 }
 
-// What a status means, where it is no success.
-fn meaning(status: u8) -> Option<&'static str> {
-    match status {
-        1 => Some(
-            "usage: mirror_cli run [limit=N] [peer=N] [table=N] [start=N] [noop] [done] [ack], or mirror_cli gen N",
-        ),
-        2 => Some("mirror_cli: a line of the input is no record"),
-        3 => Some("mirror_cli: a record comes after a close"),
-        4 => Some("mirror_cli: the sequence numbers are used up"),
-        5 => Some("mirror_cli: a frame does not fit"),
-        6 => Some("mirror_cli: the input is longer than its limit"),
-        7 => Some("mirror_cli: the input could not be read"),
-        8 => Some("mirror_cli: the output could not be written"),
-        9 => Some("mirror_cli: out of memory"),
-        _ => None,
+// The place of a fault in the input, where it has one.
+fn place_of(fault: RunFault) -> Option<u64> {
+    match fault {
+        RunFault::BadRecord { at }
+        | RunFault::Closed { at }
+        | RunFault::SequenceExhausted { at }
+        | RunFault::Unfit { at } => Some(at),
+        RunFault::Limit | RunFault::ReadFault | RunFault::WriteFault | RunFault::NoMemory => None,
+    }
+}
+
+// What a fault means.
+fn meaning(fault: RunFault) -> &'static str {
+    match fault {
+        RunFault::BadRecord { .. } => "this line is no record",
+        RunFault::Closed { .. } => "a record comes after a close",
+        RunFault::SequenceExhausted { .. } => "the sequence numbers are used up",
+        RunFault::Unfit { .. } => "a frame does not fit",
+        RunFault::Limit => "the input is longer than its limit",
+        RunFault::ReadFault => "the input could not be read",
+        RunFault::WriteFault => "the output could not be written",
+        RunFault::NoMemory => "out of memory",
+    }
+}
+
+// Writes a line on a fault to standard error.
+fn tell(rt: &HostRuntime, fault: ProgramFault) -> io::Result<()> {
+    let ProgramFault::Run(fault) = fault else {
+        return eprintln!(rt; "{USAGE}");
+    };
+    let text = meaning(fault);
+    match place_of(fault) {
+        Some(at) => eprintln!(rt; "mirror_cli: byte {at}: {text}"),
+        None => eprintln!(rt; "mirror_cli: {text}"),
     }
 }
 
@@ -51,13 +68,14 @@ fn meaning(status: u8) -> Option<&'static str> {
 fn main(rt: HostRuntime) -> ExitCode {
     let mut input = StdSource::new(rt.stdin());
     let mut out = StdSink::new(rt.stdout());
-    let status = match words(&rt) {
-        Ok(words) => cli(rt.alloc(), words.as_slice(), &mut input, &mut out),
-        Err(error) => status_of(&error),
+    let ended = match words(&rt) {
+        Ok(words) => run_words(rt.alloc(), words.as_slice(), &mut input, &mut out),
+        Err(error) => Err(fault_of(&error)),
     };
-    if let Some(text) = meaning(status) {
-        // A message that can't be written changes no status.
-        let _ = eprintln!(rt; "{text}");
-    }
-    ExitCode::from(status)
+    let Err(fault) = ended else {
+        return ExitCode::SUCCESS;
+    };
+    // A message that can't be written changes no status.
+    let _ = tell(&rt, fault);
+    ExitCode::from(fault.status())
 }

@@ -3,8 +3,8 @@
 //! NLMSG_DONE answers.
 use super::{DUMP, DUMP_TOLD, sink, source, strings};
 use crate::{
-    BatchFrame, Mark, MemorySink, Record, Report, RunFault, Runner, Settings, SocketAddr, cli,
-    read_line, run,
+    BatchFrame, Mark, MemorySink, ProgramFault, Record, Report, RunFault, Runner, Settings,
+    SocketAddr, cli, read_line, run_words,
 };
 use nl_core::{Items, Octets};
 use std::alloc::Global;
@@ -227,17 +227,24 @@ fn long_datagrams(rt: HostRuntime) -> Result<(), Fail> {
 #[test]
 fn faults_have_their_place(rt: HostRuntime) -> Result<(), Fail> {
     let alloc = rt.alloc();
-    let usual = Settings::usual();
+    let words = strings(alloc, &["run"])?;
     let rows = [
         ("close\nclose\n", [0, 0], RunFault::Closed { at: 6 }),
         ("overrun\nbad\n", [0, 0], RunFault::BadRecord { at: 8 }),
+        ("overrun\n\n", [0, 0], RunFault::BadRecord { at: 8 }),
+        ("overrun\nclose", [0, 0], RunFault::BadRecord { at: 8 }),
         ("overrun\n", [1, 0], RunFault::ReadFault),
         ("overrun\n", [0, 1], RunFault::WriteFault),
     ];
     for (input, [read, write], fault) in rows {
-        let mut input = source(alloc, input, 9, &[read])?;
-        let mut out = sink(alloc, 9, &[write])?;
-        assert_eq!(rt; run(alloc, &mut input, &mut out, &usual), Err(fault));
+        for piece in [1, 9, 100] {
+            let mut input = source(alloc, input, piece, &[read])?;
+            let mut out = sink(alloc, 100, &[write])?;
+            assert_eq!(rt;
+                run_words(alloc, words.as_slice(), &mut input, &mut out),
+                Err(ProgramFault::Run(fault))
+            );
+        }
     }
     Ok(())
 }

@@ -1,32 +1,28 @@
-use Rattle.std.proofs.Common.{◌≡◌, refl, subst, inl, inr}
-use Rattle.session_model.specs.declared.settings.Settings.{Settings}
-use Rattle.transcript_io.specs.Io.{traffic}
-use Rattle.mirror.specs.Cli.{HasFailed, WasReported}
-use Rattle.mirror.specs.Generating.{HasGenerated}
-use Rattle.mirror.proofs.Choices.{same_settings}
-use Rattle.mirror.proofs.Counts.{same_count}
+use Rattle.std.proofs.Common.{◌≡◌, inl, refl, ap, sym, ◌∙◌, Err}
+use Rattle.mirror.proofs.Statuses.{generated_by, other_of, ran_by, reading_of, writing_of}
 use Rattle.mirror.proofs.command.cli.Goals as goal
 
-pub returns-in-Some-clause-generated : goal.returns-in-Some-clause-generated
-returns-in-Some-clause-generated g c n asked =
-    let same : c.in-Some.count ≡ n = same_count _ _ _ c.in-Some.ensures asked in
-    let told = subst (λ k. HasGenerated k (g.K.Sink.written c.args.out.now) (g.K.Sink.written c.generate.new.out) c.generate.result) same c.generate.ensures.told in
-    (told, refl)
-
-pub returns-in_default-read_words-clause-ran : goal.returns-in_default-read_words-clause-ran
-returns-in_default-read_words-clause-ran g c settings spell = absurd (c.in_default-read_words.ensures settings spell)
-
 pub returns-in-Ok-clause-ran : goal.returns-in-Ok-clause-ran
-returns-in-Ok-clause-ran g c settings spell =
-    let same : c.in-Some-read_words.settings ≡ settings = same_settings _ _ _ c.in-Some-read_words.ensures spell in
-    let after = c.run_and_report.new in
-    let io = traffic g.S.Source.left c.args.input.now after.input g.K.Sink.written c.args.out.now after.out in
-    inl (refl, subst (λ (s : Settings). WasReported s io) same c.in-Ok.ensures.ok)
+returns-in-Ok-clause-ran g c settings spell = inl (refl, (c.in-Ok.ensures.ran settings spell).0)
 
 pub returns-in-Err-clause-ran : goal.returns-in-Err-clause-ran
 returns-in-Err-clause-ran g c settings spell =
-    let same : c.in-Some-read_words.settings ≡ settings = same_settings _ _ _ c.in-Some-read_words.ensures spell in
-    let after = c.run_and_report.new in
-    let io = traffic g.S.Source.left c.args.input.now after.input g.K.Sink.written c.args.out.now after.out in
-    let failed = subst (λ (s : Settings). HasFailed s io c.in-Err.fault) same c.in-Err.ensures.failed in
-    inr (c.in-Err.fault, (c.status_of.ensures, failed))
+    ran_by settings _ c.in-Err.fault c.status.result c.status.ensures (c.in-Err.ensures.ran settings spell)
+
+pub returns-in-Ok-clause-generated : goal.returns-in-Ok-clause-generated
+returns-in-Ok-clause-generated g c n asked =
+    let told = c.in-Ok.ensures.generated n asked in (inl (refl, told.0.1), told.1)
+
+pub returns-in-Err-clause-generated : goal.returns-in-Err-clause-generated
+returns-in-Err-clause-generated g c n asked =
+    let told = c.in-Err.ensures.generated n asked in
+    (generated_by n _ _ c.in-Err.fault c.status.result c.status.ensures told.0, told.1)
+
+pub returns-in-Err-clause-usage : goal.returns-in-Err-clause-usage
+returns-in-Err-clause-usage g c is = c.in-Err.ensures.usage (ap Err (other_of c.in-Err.fault (sym c.status.ensures ∙ is)))
+
+pub returns-in-Err-clause-read_cause : goal.returns-in-Err-clause-read_cause
+returns-in-Err-clause-read_cause g c is = c.in-Err.ensures.read_cause (ap Err (reading_of c.in-Err.fault (sym c.status.ensures ∙ is)))
+
+pub returns-in-Err-clause-write_cause : goal.returns-in-Err-clause-write_cause
+returns-in-Err-clause-write_cause g c is = c.in-Err.ensures.write_cause (ap Err (writing_of c.in-Err.fault (sym c.status.ensures ∙ is)))

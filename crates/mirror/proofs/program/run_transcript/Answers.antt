@@ -1,7 +1,7 @@
-use Rattle.std.proofs.Common.{◌≡◌, ◌-◌, Err, length, refl, ap, ◌∙◌, arith}
+use Rattle.std.proofs.Common.{Err, refl, ap, ◌∙◌}
 use Rattle.mirror.proofs.Begins.{begins}
-use Rattle.mirror.proofs.Errors.{err_from, err_same}
-use Rattle.mirror.proofs.Ends.{ended_before, ended_writing, ended_flushed, ended_unfinished, was_run, was_ended, was_run_for, told_for}
+use Rattle.mirror.proofs.Errors.{err_from, err_same, risen_still}
+use Rattle.mirror.proofs.Ends.{ended_before, ended_flushed, ended_unfinished, ended_writing, some_begun, none_begun, told_for, was_ended, was_run, was_run_for}
 use Rattle.session_model.specs.declared.outcome.RunFault.TheVariants as run
 use Rattle.mirror.specs.declared.runner.Runner.{Runner}
 use Rattle.mirror.proofs.program.run_transcript.Goals as goal
@@ -9,7 +9,8 @@ use Rattle.mirror.proofs.program.run_transcript.Goals as goal
 pub read_all-ended-requires-clause-begun : goal.read_all-ended-requires-clause-begun
 read_all-ended-requires-clause-begun g c =
     let made = c.new-state.ensures in
-    begins c.args.settings.now _ _ c.new-state.result c.in_ok-runner.runner c.in_ok-runner.ensures.tracks made.runner made.line made.taken made.text
+    begins c.args.settings.now _ _ c.new-state.result c.in_ok-runner.runner c.in_ok-runner.ensures.tracks made.runner made.line made.start
+    made.taken made.text
 
 pub returns-in_err-runner-clause-ended : goal.returns-in_err-runner-clause-ended
 returns-in_err-runner-clause-ended g c =
@@ -38,26 +39,27 @@ returns-in_err-ended-clause-read_cause g c is =
     c.in_err-ended.ensures.read_cause
     (ap Err (err_same c.from_residual-in_err-ended.result c.in_err-ended.field-0.0 run.ReadFault c.from_residual-in_err-ended.ensures.1 is))
 
-pub returns-then-unfinished-gt0-clause-ended : goal.returns-then-unfinished-gt0-clause-ended
-returns-then-unfinished-gt0-clause-ended g c =
+pub returns-in_err-ended-clause-write_cause : goal.returns-in_err-ended-clause-write_cause
+returns-in_err-ended-clause-write_cause g c is =
+    let same = err_same c.from_residual-in_err-ended.result c.in_err-ended.field-0.0 run.WriteFault c.from_residual-in_err-ended.ensures.1 is in
+    risen_still _ _ _ (c.in_err-ended.ensures.write_cause (ap Err same)) c.flush.ensures.later
+
+pub returns-then-begun-clause-ended : goal.returns-then-begun-clause-ended
+returns-then-begun-clause-ended g c =
     let same = c.flush.ensures.same in
     let p = c.read_all-ended.new.self in
-    let count = length c.as_slice.result.now in
-    let line : count ≡ length p.line.items = ap length c.as_slice.ensures.value ∙ ap (λ v. length v.items) same.line in
     let settings = ap (λ (r : Runner). r.settings) c.new-state.ensures.runner ∙ c.in_ok-runner.ensures.tracks.settings in
     was_ended _ _ _ _ _ _ _ settings
-    (ended_unfinished _ _ _ _ _ _ p (c.flush.new.self.taken - count) c.in_ok-ended.ensures.ok c.in_ok-ended.ensures.end
-    c.in_ok-flush.ensures.ok (omega (arith, c.if-unfinished-gt0.true, line))
-    (ap (λ n. n - count) same.taken ∙ ap (λ n. p.taken - n) line))
+    (ended_unfinished _ _ _ _ _ _ p c.flush.new.self.line_start c.in_ok-ended.ensures.ok c.in_ok-ended.ensures.end
+    c.in_ok-flush.ensures.ok (some_begun p.decoder c.flush.new.self.decoder c.begun.result same.decoder c.begun.ensures c.if-begun.true)
+    same.start)
 
 pub returns-clause-ok : goal.returns-clause-ok
 returns-clause-ok g c =
     let same = c.flush.ensures.same in
     let p = c.read_all-ended.new.self in
-    let line : length c.as_slice.result.now ≡ length p.line.items =
-    ap length c.as_slice.ensures.value ∙ ap (λ v. length v.items) same.line in
     let settings = ap (λ (r : Runner). r.settings) c.new-state.ensures.runner ∙ c.in_ok-runner.ensures.tracks.settings in
     let reports = told_for p.runner c.flush.new.self.runner c.report.result same.runner c.report.ensures in
     was_run_for _ _ _ _ _ _ c.report.result settings
     (was_run _ _ _ _ _ _ p c.report.result c.in_ok-ended.ensures.ok c.in_ok-flush.ensures.ok
-    (omega (arith, c.if-unfinished-gt0.false, line)) reports)
+    (none_begun p.decoder c.flush.new.self.decoder c.begun.result same.decoder c.begun.ensures c.if-begun.false) reports)

@@ -5,8 +5,8 @@ use Rattle.mirror.specs.Outcome.{Running}
 use Rattle.mirror.proofs.run_state.RunState.read_all.Given as goal
 
 -- The run goes on.
-abbrev pub invariant-loop-count : goal.invariant-loop-count
-invariant-loop-count g l = record {
+abbrev pub invariant-loop-input : goal.invariant-loop-input
+invariant-loop-input g l = record {
   steady : CountsFitInput l.self;
   settings : l.self.runner.settings ≡ l.initial.self.runner.settings;
   running : Running l.initial.self.runner.settings
@@ -15,5 +15,5 @@ invariant-loop-count g l = record {
   faults_out : g.K.Sink.faults l.initial.out ≤ g.K.Sink.faults l.out;
 }
 
-abbrev pub decreases-loop-count : goal.decreases-loop-count
-decreases-loop-count g l = (l.initial.self.runner.settings.limit + 1) - l.self.taken
+abbrev pub decreases-loop-input : goal.decreases-loop-input
+decreases-loop-input g l = (l.initial.self.runner.settings.limit + 1) - l.self.taken
