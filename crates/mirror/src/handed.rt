@@ -9,7 +9,6 @@ use nl_core::NoMemory;
 use proto_conn::{Polled, Unsolicited};
 use proto_core::Response;
 use session_model::{Settings, SocketAddr};
-use std::alloc::Global;
 use transcript_lines::{Word, put_incoming, put_line, put_reply};
 
 // Adds the line of a datagram that was sent.
@@ -42,7 +41,6 @@ pub fn put_sent(connection: &mut RouteConnection, text: &mut Vec<u8>) -> Result<
 
 /// Adds the lines of the messages that nothing awaited, and takes them.
 pub fn put_unsolicited(
-    alloc: Global,
     unsolicited: &mut Unsolicited,
     connection: &mut RouteConnection,
     text: &mut Vec<u8>,
@@ -52,14 +50,13 @@ pub fn put_unsolicited(
     ensures taken { OnOk result (connection.new ≡ record connection.old { unsolicited = [] }) }
 {
     while let Polled::Ready(incoming) = unsolicited.poll_next(connection) {
-        put_incoming(alloc, text, &incoming)?;
+        put_incoming(text, &incoming)?;
     }
     Ok(())
 }
 
 /// Adds the lines of the replies, and takes them.
 pub fn put_replies(
-    alloc: Global,
     settings: &Settings,
     connection: &mut RouteConnection,
     text: &mut Vec<u8>,
@@ -75,7 +72,7 @@ pub fn put_replies(
             metadata: reply.stream,
             arrival: reply.arrival,
         };
-        put_reply(alloc, settings, text, &response)?;
+        put_reply(settings, text, &response)?;
     }
     Ok(())
 }

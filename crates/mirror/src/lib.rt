@@ -20,8 +20,6 @@ mod request;
 mod run_state;
 mod runner;
 mod step_fault;
-#[cfg(test)]
-mod tests;
 
 pub use command::{cli, run_words};
 pub use laws::{one_outcome, one_settings};

@@ -142,13 +142,8 @@ impl Runner {
         let alloc = self.alloc;
         let mut text = Vec::new(alloc);
         put_sent(&mut self.connection, &mut text)?;
-        put_unsolicited(
-            alloc,
-            &mut self.unsolicited,
-            &mut self.connection,
-            &mut text,
-        )?;
-        put_replies(alloc, &self.settings, &mut self.connection, &mut text)?;
+        put_unsolicited(&mut self.unsolicited, &mut self.connection, &mut text)?;
+        put_replies(&self.settings, &mut self.connection, &mut text)?;
         let shut = self.connection.should_shut_down();
         self.observers.ledger.put_closing(alloc, shut, &mut text)?;
         Ok(text)

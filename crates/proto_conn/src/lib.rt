@@ -18,6 +18,3 @@ pub use link::{Arrival, Link, Posted, Received, Sent};
 pub use parts::{Reply, Waiting};
 pub use tape::TapeLink;
 pub use watch::Watch;
-
-#[cfg(test)]
-mod tests;

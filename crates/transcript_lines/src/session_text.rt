@@ -14,7 +14,6 @@ use nl_core::{
 };
 use proto_core::{Incoming, Outgoing, Response};
 use session_model::Settings;
-use std::alloc::Global;
 
 // How many bytes a payload has, where it fits.
 fn payload_len<T: NetlinkSerializable>(payload: &NetlinkPayload<T>) -> Option<usize>
@@ -90,7 +89,6 @@ fn put_message<T: NetlinkSerializable + NetlinkDeserializable>(
 
 /// Adds the line of a message that nothing awaited.
 pub fn put_incoming<T: NetlinkSerializable + NetlinkDeserializable>(
-    _alloc: Global,
     text: &mut Vec<u8>,
     incoming: &Incoming<T>,
 ) -> Result<(), NoMemory>
@@ -129,7 +127,6 @@ fn is_kept_back<T>(settings: &Settings, payload: &NetlinkPayload<T>) -> bool
 
 /// Adds the line of a reply, unless it is kept back.
 pub fn put_reply<T: NetlinkSerializable + NetlinkDeserializable>(
-    _alloc: Global,
     settings: &Settings,
     text: &mut Vec<u8>,
     response: &Response<T, u64>,
@@ -240,7 +237,6 @@ fn put_datagram<T: NetlinkSerializable>(
 
 /// Adds the line of a datagram whose messages fit, if it has any.
 pub fn put_outgoing<T: NetlinkSerializable>(
-    _alloc: Global,
     text: &mut Vec<u8>,
     outgoing: &Outgoing<T>,
 ) -> Result<(), NoMemory>

@@ -326,7 +326,7 @@ fn writes_lines(rt: HostRuntime) -> Result<(), Fail> {
         },
         arrival: 3,
     };
-    put_incoming(rt.alloc(), &mut text, &incoming)?;
+    put_incoming(&mut text, &incoming)?;
     for (arrival, message) in [
         (4u64, inner(rt.alloc())?),
         (5, message(NetlinkPayload::Noop)),
@@ -337,15 +337,15 @@ fn writes_lines(rt: HostRuntime) -> Result<(), Fail> {
             metadata: 2u64,
             arrival,
         };
-        put_reply(rt.alloc(), &Settings::usual(), &mut text, &response)?;
+        put_reply(&Settings::usual(), &mut text, &response)?;
     }
     let mut outgoing = Outgoing {
         messages: Items::new(rt.alloc()),
         destination: SocketAddr { port: 1, groups: 0 },
     };
-    put_outgoing(rt.alloc(), &mut text, &outgoing)?;
+    put_outgoing(&mut text, &outgoing)?;
     outgoing.messages.push(inner(rt.alloc())?)?;
-    put_outgoing(rt.alloc(), &mut text, &outgoing)?;
+    put_outgoing(&mut text, &outgoing)?;
     put_closed(&mut text, 7)?;
     let words = [
         Word::Plain(b"yes"),

@@ -2,7 +2,7 @@
 //! asks for an acknowledgement), RTM_NEWROUTE messages, one of type 108, and the kernel's NLMSG_NOOP, NLMSG_ERROR and
 //! NLMSG_DONE answers.
 use super::{DUMP, DUMP_TOLD, sink, source, strings};
-use crate::{
+use mirror::{
     BatchFrame, Mark, MemorySink, ProgramFault, Record, Report, RunFault, Runner, Settings,
     SocketAddr, cli, read_line, run_words,
 };

@@ -6,7 +6,7 @@ mod routes;
 mod sessions;
 
 use self::sessions::check_row;
-use crate::{MemorySink, MemorySource, Read, Report, RunFault, Settings, Source, cli, run};
+use mirror::{MemorySink, MemorySource, Read, Report, RunFault, Settings, Source, cli, run};
 use rt_dispatch::RouteNetlinkMessage;
 use session_model::text_grows;
 use std::alloc::{AllocError, Global};

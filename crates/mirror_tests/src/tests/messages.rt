@@ -1,8 +1,8 @@
 //! Messages of the routing family through a whole session: links (types 16 to 19), addresses (20 to 22), routes (24 to 26), rules,
 //! traffic control and its actions, by the layouts of include/uapi/linux/rtnetlink.h.
 use super::sessions::Row;
-use crate::SocketAddr;
 use bytes::BytesMut;
+use mirror::SocketAddr;
 use nl_core::{DefaultNla, Items, NetlinkMessage, NoMemory, Octets};
 use proto_core::{
     CodecError, ExpectResponse, NetlinkCodec, NetlinkMessageCodec, Protocol, Request,

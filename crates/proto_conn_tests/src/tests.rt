@@ -3,10 +3,10 @@
 mod faults;
 mod streams;
 
-use crate::*;
 use nl_core::{
     NLM_F_REQUEST, NetlinkHeader, NetlinkMessage, NetlinkPayload, NoMemory, Octets, RawMessage,
 };
+use proto_conn::*;
 use proto_core::{NetlinkCodec, NetlinkProtoError, ReplyExpectation};
 use session_model::SocketAddr;
 use std::alloc::Global;
