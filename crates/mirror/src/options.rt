@@ -186,6 +186,3 @@ pub fn read_count(words: &[String]) -> Option<u32>
     }
     Some(count)
 }
-
-#[cfg(test)]
-mod tests;

@@ -28,6 +28,10 @@ const REPLIED: &str =
 const DUMP_TOLD: &str =
     "sent 0 0 1c0000001a0001030100000000000000000000000000000000000000\nclosed 1\nok 2 1 0 0 no\n";
 
+// What is asked of the peer 7 after the number 6.
+const ASKED: &str =
+    "sent 7 0 1c0000001a0001030700000000000000000000000000000000000000\nok 1 0 0 1 no\n";
+
 fn strings(alloc: Global, words: &[&str]) -> Result<Vec<String>, AllocError> {
     let mut strings = Vec::new(alloc);
     for word in words {
@@ -88,6 +92,19 @@ fn other_words_read_and_write_nothing(rt: HostRuntime) -> Result<(), Fail> {
         &["gen", "01"],
         &["gen", "400001"],
         &["gen", "1", "1"],
+        &["run", "gen"],
+        &["run", ""],
+        &["run", "noop "],
+        &["run", "Noop"],
+        &["run", "noop=1"],
+        &["run", "limit"],
+        &["run", "limit="],
+        &["run", "limit=08"],
+        &["run", "limit=+8"],
+        &["run", "limit=8 "],
+        &["run", "limit=18446744073709551616"],
+        &["run", "start=4294967296"],
+        &["run", "peer=7", "done", "peer=8"],
     ];
     for row in rows {
         let words = strings(alloc, row)?;
@@ -97,6 +114,41 @@ fn other_words_read_and_write_nothing(rt: HostRuntime) -> Result<(), Fail> {
     let mut front = [0; 5];
     assert_eq!(rt; input.read(&mut front), Read::Got(5));
     assert_eq!(rt; front.as_slice(), b"batch".as_slice());
+    Ok(())
+}
+
+// Options in any order, and what a session does under them.
+#[test]
+fn words_spell_settings(rt: HostRuntime) -> Result<(), Fail> {
+    let alloc = rt.alloc();
+    let all_words = [
+        "run",
+        "ack",
+        "start=6",
+        "noop",
+        "limit=18446744073709551615",
+        "table=0",
+        "done",
+        "peer=7",
+    ];
+    let rows = [
+        (["run"].as_slice(), DUMP, 0, DUMP_TOLD),
+        (&["run", "limit=119"], DUMP, 0, DUMP_TOLD),
+        (&["run", "limit=118"], DUMP, 6, SENT),
+        (&["run", "start=4294967295"], DUMP, 4, ""),
+        (&all_words, "resync\n", 0, ASKED),
+    ];
+    for (row, input, status, text) in rows {
+        let words = strings(alloc, row)?;
+        let mut input = source(alloc, input, 50, &[])?;
+        let mut out = sink(alloc, 50, &[])?;
+        assert_eq!(rt;
+            cli(alloc, words.as_slice(), &mut input, &mut out),
+            status,
+            "at {text}"
+        );
+        assert_eq!(rt; out.bytes(), text.as_bytes(), "at {text}");
+    }
     Ok(())
 }
 
