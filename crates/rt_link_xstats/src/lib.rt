@@ -13,6 +13,3 @@ pub use bridge::{
 };
 pub use group::LinkXstatGroup;
 pub use laws::{nested_lists_read_back, read_nested_lists_read_back};
-
-#[cfg(test)]
-mod tests;

@@ -20,6 +20,3 @@ pub use state::NeighbourState;
 
 /// A message on a neighbour.
 pub type NeighbourMessage = Message<NeighbourHeader, NeighbourAttribute>;
-
-#[cfg(test)]
-mod tests;

@@ -18,6 +18,3 @@ pub use stats::{NeighbourTableStats, NeighbourTableStatsBuffer};
 
 /// A message on a neighbour table.
 pub type NeighbourTableMessage = Message<NeighbourTableHeader, NeighbourTableAttribute>;
-
-#[cfg(test)]
-mod tests;

@@ -32,6 +32,3 @@ pub use rule::{RuleHeader, RuleMessage};
 pub use stats64::Stats64;
 pub use tc::{TcHeader, TcMessage};
 pub use tc_action::{TcActionHeader, TcActionMessage};
-
-#[cfg(test)]
-mod tests;

@@ -5,6 +5,3 @@ mod laws;
 pub mod stats;
 
 pub use laws::{entries_read_back, statistics_messages_read_back};
-
-#[cfg(test)]
-mod tests;

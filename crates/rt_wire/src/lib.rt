@@ -12,6 +12,3 @@ pub use laws::{
 };
 pub use rt_neighbour as neighbour;
 pub use rt_neighbour_table as neighbour_table;
-
-#[cfg(test)]
-mod tests;

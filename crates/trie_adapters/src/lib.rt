@@ -15,6 +15,3 @@ pub use copied::CopiedView;
 pub use equal::EqualViews;
 pub use filter::{FilterCalls, FilterView};
 pub use map::MapView;
-
-#[cfg(test)]
-mod tests;

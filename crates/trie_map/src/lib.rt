@@ -29,6 +29,3 @@ pub use set::PrefixSet;
 pub use trie_ref::TrieRef;
 pub use view::{AsView, CloneView, TrieView};
 pub use walk::ViewIter;
-
-#[cfg(test)]
-mod tests;

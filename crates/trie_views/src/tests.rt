@@ -3,6 +3,10 @@
 
 ghost use Rattle.std.specs.Prelude.{◌≡◌, leb};
 
+mod adapters;
+mod json;
+mod maps;
+
 use crate::{
     CloneViewPairs, CoveringUnionItem, FilterCalls, PrefixMap, Steps, TrieView, ViewCalls,
     ViewPairs, walk_gives_the_list,

@@ -1,12 +1,12 @@
 //! Maps and sets in JSON, worked by hand, of each width.
 
-use crate::{
-    JsonItem, JsonRefusal, map_from_json, map_reads_back, map_to_json, set_from_json,
-    set_reads_back, set_to_json,
-};
 use serde_json::Value;
 use std::process::Abort;
 use std::test::Fail;
+use trie_json::{
+    JsonItem, JsonRefusal, map_from_json, map_reads_back, map_to_json, set_from_json,
+    set_reads_back, set_to_json,
+};
 use trie_map::{PrefixMap, PrefixSet};
 
 #[test]

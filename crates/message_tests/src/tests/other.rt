@@ -1,18 +1,9 @@
 //! Tests of messages, families and counters.
-use crate::*;
+use super::written;
 use nl_core::{DecodeError, DefaultNla, Emitable, Octets, Parseable, TryClone};
+use rt_other::*;
 use std::alloc::Global;
 use std::test::Fail;
-
-fn written<M: Emitable>(alloc: Global, message: &M) -> Result<Vec<u8>, Fail> {
-    if !message.fits() {
-        return Err(Fail::from("unfit"));
-    }
-    let len = message.buffer_len();
-    let mut bytes = vec![in alloc; 0xaa_u8; len]?;
-    message.emit(bytes.as_mut_slice());
-    Ok(bytes)
-}
 
 // The text of what a payload reads as, which is equal to its clone.
 fn rewritten<'a, M>(alloc: Global, payload: &'a [u8]) -> Result<Vec<u8>, Fail>

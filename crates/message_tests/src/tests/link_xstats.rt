@@ -1,19 +1,9 @@
 //! Tests of extended statistics of links.
-use crate::*;
+use super::written;
 use nl_core::{Emitable, Items, Nla, NlaBuffer, Parseable, TryClone};
+use rt_link_xstats::*;
 use std::alloc::Global;
 use std::test::Fail;
-
-// An attribute as bytes, none of which stood there before.
-fn written<X: Nla>(alloc: Global, attribute: &X) -> Result<Vec<u8>, Fail> {
-    if !attribute.fits() {
-        return Err(Fail::from("unfit"));
-    }
-    let len = attribute.buffer_len();
-    let mut bytes = vec![in alloc; 0xaa_u8; len]?;
-    attribute.emit(bytes.as_mut_slice());
-    Ok(bytes)
-}
 
 // Whether an attribute is read from bytes, written as they are, and equal to its clone.
 fn is_text<'a, X>(alloc: Global, bytes: &'a [u8], attribute: &X) -> Result<bool, Fail>

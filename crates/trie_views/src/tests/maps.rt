@@ -3,14 +3,14 @@
 ghost use Rattle.std.specs.Prelude.{◌≡◌, ◌≤◌, IsSome, None};
 ghost use Rattle.trie_model.specs.Maps.{inserted, value_at};
 
-use crate::{
+use std::process::Abort;
+use std::test::Fail;
+use trie_map::{
     AsView, CloneView, KeyBits, PlainPrefix, Prefix, PrefixMap, PrefixSet, Steps, TrieView,
     TryClone, ViewIter, child_bit, child_cover_mask, child_cover_mask_for_bit, data_bit,
     data_cover_mask, data_cover_mask_for_bit, data_lpm_mask, extend_repr, lies_in,
     mask_from_prefix_len, reconstruct_prefix, walk_gives_the_list,
 };
-use std::process::Abort;
-use std::test::Fail;
 
 #[test]
 fn masks_of_a_node(rt: HostRuntime) -> Result<(), Fail> {

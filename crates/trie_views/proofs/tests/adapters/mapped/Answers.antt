@@ -1,5 +1,5 @@
 use Rattle.std.proofs.Common.{rules, refl, sym, ◌∙◌, ◌*◌, ◌%◌, ap}
-use Rattle.trie_adapters.proofs.tests.mapped.Goals as goal
+use Rattle.trie_views.proofs.tests.adapters.mapped.Goals as goal
 
 pub map-view-requires : goal.map-view-requires
 map-view-requires g c κs = (

@@ -1,35 +1,17 @@
 //! Tests of messages on address labels, network namespaces and prefixes.
-use crate::addrlabel::{
-    AddrLabelAttribute, AddrLabelHeader, AddrLabelMessage, AddrLabelMessageBuffer,
-};
-use crate::nsid::{NsidAttribute, NsidHeader, NsidMessage, NsidMessageBuffer};
-use crate::prefix::{
-    CacheInfo, CacheInfoBuffer, PrefixAttribute, PrefixHeader, PrefixMessage, PrefixMessageBuffer,
-};
-use crate::*;
+use super::{is_text, written};
 use nl_core::{DecodeError, DefaultNla, Emitable, Items, Octets, Parseable, TryClone};
 use rt_other::{AddressFamily, IpAddr, Ipv4Addr, Ipv6Addr};
+use rt_wire::addrlabel::{
+    AddrLabelAttribute, AddrLabelHeader, AddrLabelMessage, AddrLabelMessageBuffer,
+};
+use rt_wire::nsid::{NsidAttribute, NsidHeader, NsidMessage, NsidMessageBuffer};
+use rt_wire::prefix::{
+    CacheInfo, CacheInfoBuffer, PrefixAttribute, PrefixHeader, PrefixMessage, PrefixMessageBuffer,
+};
+use rt_wire::*;
 use std::alloc::Global;
 use std::test::Fail;
-
-fn written<M: Emitable>(alloc: Global, message: &M) -> Result<Vec<u8>, Fail> {
-    if !message.fits() {
-        return Err(Fail::from("unfit"));
-    }
-    let len = message.buffer_len();
-    let mut bytes = vec![in alloc; 0xaa_u8; len]?;
-    message.emit(bytes.as_mut_slice());
-    Ok(bytes)
-}
-
-// Whether a payload reads as a message, which is written as the payload and equal to its clone.
-fn is_text<'a, M>(alloc: Global, payload: &'a [u8], message: &M) -> Result<bool, Fail>
-where
-    M: Parseable<&'a [u8]> + Emitable + TryClone + PartialEq + Drop,
-{
-    let same = M::parse(alloc, &payload)? == *message && message.clone_with()? == *message;
-    Ok(same && written(alloc, message)?.as_slice() == payload)
-}
 
 fn header_of_label(prefix_len: u8, index: u32, sequence: u32) -> AddrLabelHeader {
     AddrLabelHeader {

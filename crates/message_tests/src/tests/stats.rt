@@ -1,23 +1,14 @@
 //! Tests of messages on statistics.
-use crate::stats::*;
-use crate::*;
+use super::written;
 use nl_core::{
     DecodeError, DefaultNla, Emitable, Items, Octets, Parseable, TryClone, parse_attributes,
 };
 use rt_link_xstats::{nested_lists_read_back, read_nested_lists_read_back};
 use rt_other::{AddressFamily, Stats64};
+use rt_stats::stats::*;
+use rt_stats::*;
 use std::alloc::Global;
 use std::test::Fail;
-
-fn written<M: Emitable>(alloc: Global, item: &M) -> Result<Vec<u8>, Fail> {
-    if !item.fits() {
-        return Err(Fail::from("unfit"));
-    }
-    let len = item.buffer_len();
-    let mut bytes = vec![in alloc; 0xaa_u8; len]?;
-    item.emit(bytes.as_mut_slice());
-    Ok(bytes)
-}
 
 // Whether a payload reads as the message of one attribute, which has the text and equals its clone.
 fn is_read(

@@ -2,11 +2,11 @@
 
 ghost use Rattle.std.specs.Prelude.{◌≡◌, ◌*◌, ◌%◌, leb};
 
-use crate::{ClonedCalls, CopiedCalls, EqualViews, FilterCalls, MapCalls};
 use nl_core::NoMemory;
 use std::alloc::Global;
 use std::process::Abort;
 use std::test::Fail;
+use trie_adapters::{ClonedCalls, CopiedCalls, EqualViews, FilterCalls, MapCalls};
 use trie_map::{AsView, CloneView, PrefixMap, TrieView, walk_gives_the_list};
 
 // The map of 10.0.0.0/8, 10.1.0.0/16 and 10.2.0.0/16.

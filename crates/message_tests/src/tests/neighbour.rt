@@ -1,30 +1,12 @@
 //! Tests of messages on neighbours.
-use crate::*;
+use super::{is_text, written};
 use bitflags::Flags;
 use nl_core::{DecodeError, Emitable, Items, Octets, Parseable, TryClone};
+use rt_neighbour::*;
 use rt_other::{AddressFamily, IpAddr, Ipv4Addr, Ipv6Addr, RouteProtocol, RouteType};
 use std::alloc::Global;
 use std::str::FromStr;
 use std::test::Fail;
-
-fn written<M: Emitable>(alloc: Global, message: &M) -> Result<Vec<u8>, Fail> {
-    if !message.fits() {
-        return Err(Fail::from("unfit"));
-    }
-    let len = message.buffer_len();
-    let mut bytes = vec![in alloc; 0xaa_u8; len]?;
-    message.emit(bytes.as_mut_slice());
-    Ok(bytes)
-}
-
-// Whether a payload reads as a message, which is written as the payload and equal to its clone.
-fn is_text<'a, M>(alloc: Global, payload: &'a [u8], message: &M) -> Result<bool, Fail>
-where
-    M: Parseable<&'a [u8]> + Emitable + TryClone + PartialEq + Drop,
-{
-    let same = M::parse(alloc, &payload)? == *message && message.clone_with()? == *message;
-    Ok(same && written(alloc, message)?.as_slice() == payload)
-}
 
 #[test]
 fn multicast_entry(rt: HostRuntime) -> Result<(), Fail> {
